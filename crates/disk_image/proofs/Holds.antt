@@ -1,10 +1,13 @@
--- Bytes that are put beside bytes that are held, or over them.
-use Rattle.std.proofs.Common.{◌≡◌, ◌⊎◌, ⊎_elim, ℕ, ◌+◌, ◌-◌, ◌<◌, ◌≤◌, Bool, true, false, List, length, get_or, Option, Some, None, min, max, refl, ap, ◌∙◌, arith}
+-- Bytes that are put beside bytes that are held, or over them, and bytes that are refused.
+use Rattle.std.proofs.Common.{◌≡◌, ◌⊎◌, ⊎_elim, ℕ, ◌+◌, ◌-◌, ◌<◌, ◌≤◌, Bool, true, false, inl, inr, sym, subst, List, length, get_or, Option, Some, None, min, max, refl, ap, ◌∙◌, arith}
 use Rattle.std.specs.Prelude.{if◌then◌else◌}
 use Rattle.std.proofs.lemmas.Bool.{cases_Bool}
 use Rattle.std.proofs.lemmas.Bool.Decides.{nat_tests}
 use Rattle.std.proofs.lemmas.List.{places}
-use Rattle.disk_image.specs.Holding.{is_among}
+use Rattle.disk_records.specs.declared.records.Sector.{Sector}
+use Rattle.disk_image.specs.declared.held.Held.{Held}
+use Rattle.disk_image.specs.Holding.{is_among, first_place, Puts, HoldsAll, HoldsNone, IsLater, IsTooMuch, IsApart, IsRefused, TakesSector}
+use Rattle.disk_image.specs.Images.{sector_bytes}
 use borrow.Rule.Slice.PartMut.{put_mid}
 
 inside : (buffer bytes : List ℕ) (o j : ℕ) → o + length bytes ≤ length buffer → o ≤ j → j < o + length bytes → get_or (put_mid o (o + length bytes - o) buffer bytes) j 0 ≡ get_or bytes (j - o) 0
@@ -39,10 +42,11 @@ beside_them buffer bytes base o from end f e k true fits among new old =
     let off : (k - base < o) ⊎ (o + length bytes ≤ k - base) = grind (arith, nat_tests) in
     rw (among, new, old) (ap Some (⊎_elim (below buffer bytes o (k - base) fits) (above buffer bytes o (k - base) fits) off))
 
--- bytes that are put where nothing is held
-pub puts_first : (buffer bytes items put now : List ℕ) (base o at f e k : ℕ) (old : Option ℕ) → o + length bytes ≤ length buffer → items ≡ buffer → put ≡ bytes → now ≡ put_mid o (o + length bytes - o) items put → f ≡ o → e ≡ o + length bytes → at ≡ base + o → old ≡ None → in_buffer now base f e k ≡ (if is_among at (length bytes) k then Some (get_or bytes (k - at) 0) else old)
-puts_first buffer bytes items put now base o at f e k old fits same also whole first last place none =
-    rw (whole, same, also, first, last, place)
+-- so many bytes that are put where nothing is held
+pub puts_first : (buffer bytes items put now : List ℕ) (n base o at f e k : ℕ) (old : Option ℕ) → length bytes ≡ n → o + n ≤ length buffer → items ≡ buffer → put ≡ bytes → now ≡ put_mid o (o + n - o) items put → f ≡ o → e ≡ o + n → at ≡ base + o → old ≡ None → in_buffer now base f e k ≡ (if is_among at (length bytes) k then Some (get_or bytes (k - at) 0) else old)
+puts_first buffer bytes items put now n base o at f e k old len room same also whole first last place none =
+    let fits : o + length bytes ≤ length buffer = omega arith in
+    rw (whole, ← len, same, also, first, last, ← len, place)
     (⊎_elim
     (λ (among : is_among (base + o) (length bytes) k ≡ true). in_them buffer bytes base o o (o + length bytes) k old fits (omega arith) (omega arith) among)
     (λ (among : is_among (base + o) (length bytes) k ≡ false).
@@ -50,11 +54,36 @@ puts_first buffer bytes items put now base o at f e k old fits same also whole f
     rw (among, new, none) refl)
     (cases_Bool (is_among (base + o) (length bytes) k)))
 
--- bytes that are put over those that are held, or beside them
-pub puts_more : (buffer bytes items put now : List ℕ) (base o at from end f e k : ℕ) → o + length bytes ≤ length buffer → from ≤ end → items ≡ buffer → put ≡ bytes → now ≡ put_mid o (o + length bytes - o) items put → f ≡ min from o → e ≡ max end (o + length bytes) → at ≡ base + o → o ≤ end → from ≤ o + length bytes → in_buffer now base f e k ≡ (if is_among at (length bytes) k then Some (get_or bytes (k - at) 0) else in_buffer buffer base from end k)
-puts_more buffer bytes items put now base o at from end f e k fits ordered same also whole first last place low high =
-    rw (whole, same, also, place)
+-- so many bytes that are put over those that are held, or beside them
+pub puts_more : (buffer bytes items put now : List ℕ) (n base o at from end f e k : ℕ) → length bytes ≡ n → o + n ≤ length buffer → from ≤ end → items ≡ buffer → put ≡ bytes → now ≡ put_mid o (o + n - o) items put → f ≡ min from o → e ≡ max end (o + n) → at ≡ base + o → o ≤ end → from ≤ o + n → in_buffer now base f e k ≡ (if is_among at (length bytes) k then Some (get_or bytes (k - at) 0) else in_buffer buffer base from end k)
+puts_more buffer bytes items put now n base o at from end f e k len room ordered same also whole first last place low high =
+    let fits : o + length bytes ≤ length buffer = omega arith in
+    rw (whole, ← len, same, also, place)
     (⊎_elim
     (λ (among : is_among (base + o) (length bytes) k ≡ true). in_them buffer bytes base o f e k _ fits (omega arith) (omega arith) among)
     (λ (among : is_among (base + o) (length bytes) k ≡ false). beside_them buffer bytes base o from end f e k (is_among (base + from) (end - from) k) fits among (grind (arith, nat_tests)) refl)
     (cases_Bool (is_among (base + o) (length bytes) k)))
+
+-- bytes that are put where nothing is held are all that is held
+pub puts_alone : (at : ℕ) (bytes : List ℕ) (ahead new : Held) → HoldsNone ahead → Puts at bytes ahead new → HoldsAll at bytes new
+puts_alone at bytes ahead new none puts k = puts k ∙ ap (λ (old : Option ℕ). if is_among at (length bytes) k then Some (get_or bytes (k - at) 0) else old) (none k)
+
+-- where nothing is held bytes are refused only for want of memory
+pub refused_by_none : (at count : ℕ) (held : Held) → HoldsNone held → IsRefused at count held → IsTooMuch at count held
+refused_by_none at count held none refused = ⊎_elim (λ (much : IsTooMuch at count held). much) (λ (apart : IsApart at count held).
+    let among : is_among (first_place held) (held.end - held.from) (first_place held) ≡ true = grind (arith, nat_tests, apart.0) in
+    let there = rw among at (none (first_place held)) in cc) refused
+
+-- a sector is taken: beside those bytes that are held, alone, or not held for want of memory
+pub takes_beside : (at : ℕ) (s : Sector) (old put new : Held) → new ≡ put → IsLater at old → Puts at (sector_bytes s) old put → TakesSector at s old new
+takes_beside at s old put new same later puts = subst (λ (held : Held). TakesSector at s old held) (sym same) (inl (later, puts))
+
+pub takes_alone : (at here : ℕ) (s : Sector) (old ahead put new : Held) → here ≡ at → new ≡ put → IsRefused at 532 old → HoldsNone ahead → Puts here (sector_bytes s) ahead put → TakesSector at s old new
+takes_alone at here s old ahead put new place same why none puts =
+    let there = subst (λ (n : ℕ). Puts n (sector_bytes s) ahead put) place puts in
+    subst (λ (held : Held). TakesSector at s old held) (sym same) (inr (why, inl (puts_alone at (sector_bytes s) ahead put none there)))
+
+pub takes_none : (at here : ℕ) (s : Sector) (old ahead new : Held) → here ≡ at → new ≡ ahead → IsRefused at 532 old → HoldsNone ahead → IsRefused here 532 ahead → TakesSector at s old new
+takes_none at here s old ahead new place same why none again =
+    let there = subst (λ (n : ℕ). IsRefused n 532 ahead) place again in
+    subst (λ (held : Held). TakesSector at s old held) (sym same) (inr (why, inr (refused_by_none at 532 ahead none there, none)))

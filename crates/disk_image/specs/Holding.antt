@@ -1,6 +1,8 @@
 -- Which bytes of a file are held back on their way to it, and which may join them.
 use Rattle.std.specs.Prelude.{◌≡◌, ◌⊎◌, ℕ, ◌+◌, ◌-◌, ◌*◌, ◌/◌, ◌%◌, ◌<◌, ◌≤◌, ◌&&◌, Bool, nat_lt, nat_le, if◌then◌else◌, List, length, get_or, Option, Some, None, vec_len}
+use Rattle.disk_records.specs.declared.records.Sector.{Sector}
 use Rattle.disk_image.specs.declared.held.Held.{Held}
+use Rattle.disk_image.specs.Images.{sector_bytes}
 
 -- whether a place is one of so many from another one on
 abbrev pub is_among : ℕ → ℕ → ℕ → Bool
@@ -52,3 +54,9 @@ HoldsAll at bytes held = (k : ℕ) → held_at held k ≡ (if is_among at (lengt
 
 abbrev pub HoldsNone : Held → Type 0
 HoldsNone held = (k : ℕ) → held_at held k ≡ None
+
+-- A file takes a sector for a place. Where its bytes may join those that are held they are held beside them or over them. Else what is held
+-- goes ahead, and they alone are held; or nothing is, and they were written at once: where the pages from theirs on, as many as there is
+-- memory for, don't have all of them.
+abbrev pub TakesSector : ℕ → Sector → Held → Held → Type 0
+TakesSector at sector old new = (IsLater at old × Puts at (sector_bytes sector) old new) ⊎ (IsRefused at 532 old × (HoldsAll at (sector_bytes sector) new ⊎ (IsTooMuch at 532 new × HoldsNone new)))

@@ -9,11 +9,13 @@ ghost use Rattle.disk_image.specs.Kept.{kept_at, ReadsKept, NoOtherChanges};
 ghost use Rattle.disk_image.specs.Records.{writes_after_all};
 
 use crate::kept::KeptSectors;
+use crate::placed::Placed;
 use crate::records::{read_cylinder, read_front, seek_to, seek_to_cylinder, write_back};
 use crate::spot::{CYLINDER_SECTORS, Spot};
 use disk_records::{Plan, Sector, first_mismatch, update_memory};
 use std::io;
-use std::io::{Read, Seek, Write};
+use std::io::{Read, Seek};
+use std::os::unix::fs::FileExt;
 
 /// Reads and checks the records before the first Write, of a sector that isn't kept: those of its cylinder, which is kept from now on,
 /// else its own alone. Answers the first word that differs, if one does.
@@ -62,10 +64,15 @@ fn keep_cylinder_of<F: Read + Seek>(file: &mut F, spot: Spot, kept: &mut KeptSec
 }
 
 /// The first word of memory that differs from the disk's. Where there is none, memory gets the records that the command reads or checks.
+/// Where it only reads, the sector is copied whole.
 pub(crate) fn compare(plan: Plan, memory: &mut Sector, disk: &Sector) -> Option<(u8, u16)>
     ensures found { result ≡ mismatch plan memory.old disk.now }
     ensures same { IfNone result (memory.new ≡ memory_after plan memory.old disk.now) }
 {
+    if plan == Plan::READ {
+        *memory = *disk;
+        return None;
+    }
     let found = first_mismatch(plan, memory, disk);
     if found.is_none() {
         update_memory(plan, memory, disk);
@@ -75,8 +82,8 @@ pub(crate) fn compare(plan: Plan, memory: &mut Sector, disk: &Sector) -> Option<
 
 /// Writes a sector to its place in the file, and counts the records whose act is Write. The others were read or compared, so that memory
 /// has them as they stand.
-pub(crate) fn write_in_file<F: Write + Seek>(
-    file: &mut F,
+pub(crate) fn write_in_file<F: FileExt + Seek>(
+    file: &mut Placed<F>,
     ahead: u16,
     plan: Plan,
     sector: &Sector,

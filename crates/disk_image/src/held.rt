@@ -12,6 +12,8 @@
 // both.
 ghost use Rattle.std.specs.Prelude.{◌<◌, ◌≤◌, vec_len};
 
+use crate::codec::{SECTOR_BYTES, write_sector};
+use disk_records::Sector;
 use std::alloc::Global;
 
 /// The bytes of a page of memory: of the smallest that Linux has on x86-64.
@@ -37,8 +39,9 @@ pub(crate) struct Held {
 }
 
 impl Held {
-    ghost use Rattle.std.specs.Prelude.{◌≡◌, ◌<◌, length, IsTrue, IsFalse};
+    ghost use Rattle.std.specs.Prelude.{◌≡◌, ◌<◌, IsTrue, IsFalse};
     ghost use Rattle.disk_image.specs.Holding.{first_place, HoldsAll, HoldsNone, IsLater, IsRefused, Joins, Puts, StandsApart};
+    ghost use Rattle.disk_image.specs.Images.{sector_bytes};
 
     /// Holds nothing, and has memory for some pages. Where that is refused it never holds any.
     pub(crate) fn new(alloc: Global) -> Held
@@ -90,14 +93,14 @@ impl Held {
         from <= self.end && self.from <= end && from / PAGE_OF_MEMORY >= last
     }
 
-    /// Holds these bytes for their places of the file, the first of them at this one, beside those that are held or over them. False, and
-    /// then nothing changes: they aren't all in the pages that there is memory for, from that of the first byte that is held on, or from
-    /// their own where none is held; or some byte between them and those that are held would be missing; or they begin in a page before
-    /// that of the last byte that is held.
-    pub(crate) fn put(&mut self, at: u64, bytes: &[u8]) -> bool
-        ensures taken { IsTrue result → Puts at bytes.now self.old self.new }
+    /// Holds the bytes of a sector for their places of the file, the first of them at this one, beside those that are held or over them.
+    /// False, and then nothing changes: they aren't all in the pages that there is memory for, from that of the first byte that is held on,
+    /// or from their own where none is held; or some byte between them and those that are held would be missing; or they begin in a page
+    /// before that of the last byte that is held.
+    pub(crate) fn put(&mut self, at: u64, sector: &Sector) -> bool
+        ensures taken { IsTrue result → Puts at (sector_bytes sector.now) self.old self.new }
         ensures later { IsTrue result → IsLater at self.old }
-        ensures why { IsFalse result → IsRefused at (length bytes.now) self.old }
+        ensures why { IsFalse result → IsRefused at 532 self.old }
         ensures refused { IsFalse result → self.new ≡ self.old }
     {
         let is_first = self.is_empty();
@@ -109,11 +112,11 @@ impl Held {
         let Some(ahead) = at.checked_sub(number * PAGE_OF_MEMORY as u64) else {
             return false;
         };
-        if bytes.len() > self.buffer.len() || ahead > (self.buffer.len() - bytes.len()) as u64 {
+        if SECTOR_BYTES > self.buffer.len() || ahead > (self.buffer.len() - SECTOR_BYTES) as u64 {
             return false;
         }
         let from = ahead as usize;
-        let end = from + bytes.len();
+        let end = from + SECTOR_BYTES;
         if is_first {
             self.from = from;
             self.end = end;
@@ -124,7 +127,7 @@ impl Held {
             return false;
         }
         self.number = number;
-        self.buffer[from..end].copy_from_slice(bytes);
+        write_sector(sector, &mut self.buffer[from..end]);
         true
     }
 

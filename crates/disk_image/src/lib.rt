@@ -15,12 +15,13 @@
 //! `FileMachine` is the edge to the outside. What a real file, terminal or pipe does is trusted and not proved, so it isn't modelled:
 //! no clause speaks of what it reads or shows. Proved are which drive's file a command goes to and where in it (`drive_of`), that the
 //! other drive's file isn't touched by a command that reads, and holds nothing back after one that writes (`obey`), and of each step of a
-//! command by itself where it goes in the file, which bytes it asks for, keeps and hands on (`seek_to_cylinder`, `read_cylinder`, `seek_to`,
-//! `read_front`, `write_back`), over any file whose position and bytes are known. Of the bytes that are held back on their way to a file it
-//! is proved which they are for each place of it (`Puts`, `HoldsAll`), which may join them so that one call writes all in order (`IsLater`),
-//! and that none are after a flush that answers Ok. Of the sectors that are kept in memory it is proved what a command reads of them, and
-//! that they are what memory holds after each command, also after one that writes (`ObeysKept`). That a command takes these steps in this
-//! order, and when what is held back is handed on, is tested.
+//! command ahead of its write, by itself, where it goes in the file, which bytes it asks for and keeps (`seek_to_cylinder`,
+//! `read_cylinder`, `seek_to`, `read_front`), over any file whose position and bytes are known. Of the bytes that are held back on their way
+//! to a file it is proved which they are for each place of it (`Puts`, `HoldsAll`), which may join them so that one call writes all in order
+//! (`IsLater`), that the write of a sector puts exactly its bytes where the file stands (`write_back`: `TakesSector`), and that none are held
+//! after a flush that answers Ok. Of the sectors that are kept in memory it is proved what a command reads of them, and that they are what
+//! memory holds after each command, also after one that writes (`ObeysKept`). That a command takes these steps in this order, and when what
+//! is held back is handed on, is tested.
 #![tactic(auto)]
 
 mod codec;

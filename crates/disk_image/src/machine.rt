@@ -26,9 +26,11 @@
 // stand in the order of the file, which needn't be that of the commands. Nothing is synced to the device, so a power failure may leave
 // less; and a machine that is dropped without a flush takes along what it holds back.
 //
-// Before each write call a command or a flush asks for the file's length, by a seek to its end, so that no write makes the file longer,
-// unless another process shortens the file between the question and the write. Where the file is too short, or the call fails, the command
-// fails in which that was tried, or the flush; what is held back stays so and is tried again first, so nothing goes ahead of it.
+// Before the first write call after a flush the file's length is asked for, by a seek to its end; the write calls up to the next flush go by
+// the length that was answered, so a session asks once for each typed line that writes a file. No write makes the file longer, unless
+// another process shortens the file after the question: the time in which it can is that from the question to the last write call before
+// the next flush. Where the file is too short by that length, or the call fails, the command fails in which that was tried, or the flush;
+// what is held back stays so and is tried again first, so nothing goes ahead of it, and the length is asked for again.
 //
 // Keys are read ahead. Those of one line that were are taken at once, and none past the line's end (`read_piece`).
 ghost use Rattle.std.specs.Prelude.{◌≡◌, ◌≢◌, ◌-◌, ◌<◌, ◌≤◌, false, [], length, take, IfOk, IfErr, OnErr};
@@ -138,7 +140,7 @@ where
     }
 
     /// It hands on the bytes that are held back of a drive's file, by one write call, and takes no memory. After Failed they are held back
-    /// still, until a call hands them on.
+    /// still, until a call hands them on. The next write call of each file asks for its length again.
     fn flush(&mut self) -> Result<(), DiskError>
         ensures handed_on { OnOk result (⟦<FileMachine<'a, R> as Tape>⟧.handed_on self.new) }
         ensures alone { DiskAlone (⟦<FileMachine<'a, R> as Tape>⟧.tape self.old) (⟦<FileMachine<'a, R> as Tape>⟧.tape self.new) }
@@ -150,7 +152,7 @@ where
         ensures fault { CountsFault (IsErrOf result DiskError.Failed) (⟦<FileMachine<'a, R> as Tape>⟧.tape self.old).disk_faults (⟦<FileMachine<'a, R> as Tape>⟧.tape self.new).disk_faults }
         ensures same_writes { (⟦<FileMachine<'a, R> as Tape>⟧.tape self.new).writes ≡ (⟦<FileMachine<'a, R> as Tape>⟧.tape self.old).writes }
     {
-        match self.hand_on() {
+        match self.hand_on_all() {
             Ok(()) => Ok(()),
             Err(_) => {
                 self.disk_faults = self.disk_faults.saturating_add(1);
@@ -405,16 +407,20 @@ where
         }
     }
 
-    /// Hands on what is held back of the files. At most one of them has any, as a command that writes hands on that of the other drive.
-    fn hand_on(&mut self) -> io::Result<()>
+    /// Hands on what is held back of the files, and knows the length of neither any longer, whatever the answer. At most one of them has any
+    /// held back, as a command that writes hands on that of the other drive.
+    fn hand_on_all(&mut self) -> io::Result<()>
         ensures same { (⟦<FileMachine<'a, R> as Tape>⟧.tape self.new) ≡ (⟦<FileMachine<'a, R> as Tape>⟧.tape self.old) }
         ensures first { OnOk result (HoldsNone self.new.first.held) }
         ensures second { OnOk result (IfSome self.new.second (λ file. HoldsNone file.held)) }
+        ensures first_unknown { self.new.first.known_length ≡ None }
+        ensures second_unknown { IfSome self.new.second (λ file. file.known_length ≡ None) }
     {
+        let first = self.first.flush();
         if let Some(second) = &mut self.second {
-            second.hand_on()?;
+            second.flush()?;
         }
-        self.first.hand_on()
+        first
     }
 }
 

@@ -2,13 +2,19 @@
 // write names its place in the call that it makes. Bytes that are written are held back as long as they touch each other in some pages of
 // memory of the file that follow each other, in an order in which one call may write them all (held.rt). They go ahead of all that is read
 // or written after them.
-ghost use Rattle.std.specs.Prelude.{◌≡◌, ◌↔◌, ◌+◌, ◌≤◌, IsTrue, OnOk, OnErr};
-ghost use Rattle.disk_image.specs.Holding.{HoldsNone};
+//
+// The file's length is asked for before the first write call after a flush, and before the first after an error of a write call or of that
+// question. The other write calls go by the length that was answered then.
+ghost use Rattle.std.specs.Prelude.{◌≡◌, ◌⊎◌, ◌↔◌, ◌+◌, ◌≤◌, length, None, Some, IfSome, IsSomeAnd, IsTrue, OnOk, OnErr};
+ghost use Rattle.disk_records.specs.Tapes.{capped};
+ghost use Rattle.disk_image.specs.Holding.{HoldsNone, TakesSector};
 
+use crate::codec::{SECTOR_BYTES, write_sector};
 use crate::held::Held;
+use disk_records::Sector;
 use std::alloc::Global;
 use std::io;
-use std::io::{Error, ErrorKind, Read, Seek, SeekFrom, Write};
+use std::io::{Error, ErrorKind, Read, Seek, SeekFrom};
 use std::os::unix::fs::FileExt;
 
 /// An open file with the place in it of the next byte that is read or written. The position that the outside has for it means nothing.
@@ -19,6 +25,8 @@ pub(crate) struct Placed<F> {
     at: u64,
     // what was written and isn't in the file yet
     held: Held,
+    // the length in bytes that the file answered when it was asked last, where no flush and no error came since
+    known_length: Option<u64>,
 }
 
 impl<F> Placed<F> {
@@ -26,29 +34,82 @@ impl<F> Placed<F> {
     pub(crate) fn new(alloc: Global, file: F) -> Placed<F>
         ensures place { result.at ≡ 0 }
         ensures none { HoldsNone result.held }
+        ensures unknown { result.known_length ≡ None }
     {
         Placed {
             file,
             at: 0,
             held: Held::new(alloc),
+            known_length: None,
         }
     }
 }
 
 impl<F: FileExt + Seek> Placed<F> {
-    /// Hands on to the file what is held back of it, by one write call, after a question for the file's length. Where that fails it is held
-    /// back still, and nothing goes ahead of it later.
+    /// Hands on to the file what is held back of it, by one write call. Where that fails it is held back still, and nothing goes ahead of it
+    /// later.
     pub(crate) fn hand_on(&mut self) -> io::Result<()>
         ensures ok { OnOk result (HoldsNone self.new.held) }
         ensures err { OnErr result (self.new.held ≡ self.old.held) }
         ensures place { self.new.at ≡ self.old.at }
+        ensures forgotten { OnErr result (self.new.known_length ≡ None) }
     {
         if self.held.is_empty() {
             return Ok(());
         }
-        write_asking(&mut self.file, self.held.place(), self.held.bytes())?;
+        let at = self.held.place();
+        write_within(
+            &mut self.file,
+            &mut self.known_length,
+            at,
+            self.held.bytes(),
+        )?;
         self.held.clear();
         Ok(())
+    }
+
+    /// Hands on what is held back, as `hand_on` does, and knows the file's length no longer, whatever the answer: the next write call asks
+    /// for it again.
+    pub(crate) fn flush(&mut self) -> io::Result<()>
+        ensures ok { OnOk result (HoldsNone self.new.held) }
+        ensures err { OnErr result (self.new.held ≡ self.old.held) }
+        ensures place { self.new.at ≡ self.old.at }
+        ensures forgotten { self.new.known_length ≡ None }
+    {
+        let answer = self.hand_on();
+        self.known_length = None;
+        answer
+    }
+
+    /// Takes a sector for the place where the file stands, which goes on by the sector's 532 bytes. They are held back. What is held goes
+    /// ahead of them, by one call, unless they may join it: so all that one call writes from a multiple of 4,096 on was taken after all that
+    /// it writes before it, or together with it. Where there is no memory to hold them they are written by a call of their own. After an
+    /// error the place is as it was, and what was held is held still, or was handed on.
+    pub(crate) fn put(&mut self, sector: &Sector) -> io::Result<()>
+        ensures ok { OnOk result (TakesSector self.old.at sector.now self.old.held self.new.held) }
+        ensures err { OnErr result ((self.new.held ≡ self.old.held) ⊎ HoldsNone self.new.held) }
+        ensures place { OnOk result (self.new.at ≡ capped (self.old.at + 532)) }
+        ensures same_place { OnErr result (self.new.at ≡ self.old.at) }
+    {
+        if !self.held.put(self.at, sector) {
+            self.hand_on()?;
+            if !self.held.put(self.at, sector) {
+                self.write_at_once(sector)?;
+            }
+        }
+        self.at = self.at.saturating_add(SECTOR_BYTES as u64);
+        Ok(())
+    }
+
+    /// Writes a sector where the file stands, by a call of its own. It stands apart from `put`, which would else clear its memory each time.
+    #[inline(never)]
+    fn write_at_once(&mut self, sector: &Sector) -> io::Result<()>
+        ensures same_held { self.new.held ≡ self.old.held }
+        ensures same_place { self.new.at ≡ self.old.at }
+    {
+        let mut bytes = [0; SECTOR_BYTES];
+        write_sector(sector, &mut bytes);
+        write_within(&mut self.file, &mut self.known_length, self.at, &bytes)
     }
 }
 
@@ -59,15 +120,30 @@ fn has_bytes(length: u64, at: u64, count: usize) -> bool
     at <= length && count as u64 <= length - at
 }
 
-/// Writes bytes to their place in a file that has the whole of it, by one write call, after a question for its length. UnexpectedEof: it no
-/// longer has. Records written there would make the file longer again, and those that were lost would be read as zeros. That holds for the
+/// Writes bytes to their place in a file that has the whole of it, by one write call. `known` is the length that the file is known to have;
+/// where none is, the file is asked for it. UnexpectedEof: it doesn't have all of them by that length. Records written there would make the
+/// file longer again, and those that were lost would be read as zeros. After each error no length is known. What is tested holds for the
 /// moment of the question: another process can shorten the file after it.
-fn write_asking<F: FileExt + Seek>(file: &mut F, at: u64, bytes: &[u8]) -> io::Result<()> {
-    let length = file.seek(SeekFrom::End(0))?;
+fn write_within<F: FileExt + Seek>(
+    file: &mut F,
+    known: &mut Option<u64>,
+    at: u64,
+    bytes: &[u8],
+) -> io::Result<()>
+    ensures enough { OnOk result (IsSomeAnd known.new (λ bound. at + length bytes.now ≤ bound)) }
+    ensures same { OnOk result (IfSome known.old (λ bound. known.new ≡ Some bound)) }
+    ensures forgotten { OnErr result (known.new ≡ None) }
+{
+    let length = match known.take() {
+        Some(length) => length,
+        None => file.seek(SeekFrom::End(0))?,
+    };
     if !has_bytes(length, at, bytes.len()) {
         return Err(Error::from(ErrorKind::UnexpectedEof));
     }
-    file.write_all_at(bytes, at)
+    file.write_all_at(bytes, at)?;
+    *known = Some(length);
+    Ok(())
 }
 
 impl<F: FileExt + Seek> Read for Placed<F> {
@@ -76,27 +152,6 @@ impl<F: FileExt + Seek> Read for Placed<F> {
         let count = self.file.read_at(buf, self.at)?;
         self.at = self.at.saturating_add(count as u64);
         Ok(count)
-    }
-}
-
-impl<F: FileExt + Write + Seek> Write for Placed<F> {
-    /// The bytes are held back. Those that are held go ahead of them, by one call, unless these may join them: so all that one call writes
-    /// from a multiple of 4,096 on was written here after all that it writes before it, or together with it. Bytes that there is no memory
-    /// to hold are written by a call of their own.
-    fn write(&mut self, buf: &[u8]) -> io::Result<usize> {
-        if !self.held.put(self.at, buf) {
-            self.hand_on()?;
-            if !self.held.put(self.at, buf) {
-                write_asking(&mut self.file, self.at, buf)?;
-            }
-        }
-        self.at = self.at.saturating_add(buf.len() as u64);
-        Ok(buf.len())
-    }
-
-    fn flush(&mut self) -> io::Result<()> {
-        self.hand_on()?;
-        self.file.flush()
     }
 }
 

@@ -1,20 +1,23 @@
 // The records of one sector, read from a file and written to it where the file stands.
-ghost use Rattle.std.specs.Prelude.{◌≡◌, ◌*◌, ◌/◌, ◌≤◌, length, replicate, IfOk, OnOk, OnErr, IsTrue};
+ghost use Rattle.std.specs.Prelude.{◌≡◌, ◌+◌, ◌*◌, ◌/◌, ◌≤◌, length, replicate, IfOk, OnOk, OnErr, IsTrue};
 ghost use Rattle.std.specs.Io.KnownBytes.{Consumes, Appends};
 ghost use Rattle.std.specs.Io.Seek.{MovesTo};
 ghost use Rattle.disk_records.specs.Checks.{is_legal};
+ghost use Rattle.disk_records.specs.Tapes.{capped};
+ghost use Rattle.disk_image.specs.Holding.{TakesSector};
 ghost use Rattle.disk_image.specs.Kept.{HasRoom, ReadsCylinder};
-ghost use Rattle.disk_image.specs.Images.{sector_bytes};
 ghost use Rattle.disk_image.specs.Records.{read_length, front_length, front_bytes, writes_after, writes_after_all};
 
 use crate::codec::{
-    CYLINDER_BYTES, HEADER_BYTES, LABEL_BYTES, SECTOR_BYTES, VALUE_BYTES, read_sector, write_sector,
+    CYLINDER_BYTES, HEADER_BYTES, LABEL_BYTES, SECTOR_BYTES, VALUE_BYTES, read_sector,
 };
 use crate::kept::KeptSectors;
+use crate::placed::Placed;
 use crate::spot::CYLINDER_SECTORS;
 use disk_records::{Act, Plan, Sector};
 use std::io;
 use std::io::{Read, Seek, SeekFrom, Write};
+use std::os::unix::fs::FileExt;
 
 /// How many of a record's bytes an act reads.
 fn read_length(act: Act, bytes: usize) -> usize
@@ -89,22 +92,21 @@ fn writes_after(act: Act, writes: u64) -> u64
     }
 }
 
-/// Writes a sector whole, where the file stands, by one write call, and counts the records whose act is Write. The others have to be as
-/// they stand in the file. After a fault none is counted.
-pub(crate) fn write_back<F: Write>(
-    file: &mut F,
+/// Writes a sector whole, where the file stands, and counts the records whose act is Write. The others have to be as they stand in the
+/// file. The bytes may be held back (placed.rt). After a fault none is counted.
+pub(crate) fn write_back<F: FileExt + Seek>(
+    file: &mut Placed<F>,
     plan: Plan,
     sector: &Sector,
     writes: &mut u64,
 ) -> io::Result<()>
-    ensures bytes { OnOk result (Appends (F.contents file.old) (F.contents file.new) (sector_bytes sector.now)) }
+    ensures bytes { OnOk result (TakesSector file.old.at sector.now file.old.held file.new.held) }
+    ensures place { OnOk result (file.new.at ≡ capped (file.old.at + 532)) }
     ensures count { OnOk result (writes.new ≡ writes_after_all plan writes.old) }
     ensures err { OnErr result (writes.new ≡ writes.old) }
     ensures rise { writes.old ≤ writes.new }
 {
-    let mut bytes = [0; SECTOR_BYTES];
-    write_sector(sector, &mut bytes);
-    file.write_all(&bytes)?;
+    file.put(sector)?;
     *writes = writes_after(
         plan.value,
         writes_after(plan.label, writes_after(plan.header, *writes)),

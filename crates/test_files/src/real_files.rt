@@ -173,7 +173,7 @@ fn makes_calls(
 fn a_sector_command_is_few_calls(rt: HostRuntime) -> Result<(), Fail> {
     // the second cylinder begins at byte 12,768, and its sector 7 is 3,724 bytes further on
     let cylinder = [FileCall::ReadAt(12_768, 12_768)];
-    // the file's length is asked first; the sector is written whole, whichever records the command writes
+    // the file's length is asked first, again after each flush; the sector is written whole, whichever records the command writes
     let sector = [
         FileCall::Seek(SeekFrom::End(0)),
         FileCall::WriteAt(16_492, 532),
@@ -195,11 +195,13 @@ fn writes_that_touch_are_handed_on_by_one_call(rt: HostRuntime) -> Result<(), Fa
     let end = FileCall::Seek(SeekFrom::End(0));
     let three = [end, FileCall::WriteAt(0, 1_596)];
     let two = [end, FileCall::WriteAt(532, 1_064)];
-    let sector_4 = [end, FileCall::WriteAt(2_128, 532)];
-    let sector_6 = [end, FileCall::WriteAt(3_192, 532)];
-    let sector_7 = [end, FileCall::WriteAt(3_724, 532)];
-    let sector_8 = [end, FileCall::WriteAt(4_256, 532)];
+    let sector_4 = [FileCall::WriteAt(2_128, 532)];
+    let sector_6 = [FileCall::WriteAt(3_192, 532)];
+    let sector_7 = [FileCall::WriteAt(3_724, 532)];
+    let sector_8 = [FileCall::WriteAt(4_256, 532)];
     let both = [end, FileCall::WriteAt(3_724, 1_064)];
+    // the length is asked for before the first write call after a flush alone
+    let sector_7_first = [end, FileCall::WriteAt(3_724, 532)];
     // the sector that is written, or none where the machine is flushed, and the calls for it
     let rows = [
         (Some(0u16), [].as_slice()),
@@ -221,7 +223,7 @@ fn writes_that_touch_are_handed_on_by_one_call(rt: HostRuntime) -> Result<(), Fa
         (None, &sector_7),
         // sector 6 is in the page before that in which sector 7 ends
         (Some(7), &[]),
-        (Some(6), &sector_7),
+        (Some(6), &sector_7_first),
         (None, &sector_6),
         // sector 7 again, after which sector 8 is held
         (Some(7), &[]),
@@ -250,6 +252,47 @@ fn writes_that_touch_are_handed_on_by_one_call(rt: HostRuntime) -> Result<(), Fa
     assert!(rt; log.take_file_calls(alloc)?.as_slice() == read.as_slice());
     assert!(rt; sector == NUMBERED);
     fs::remove_file(&rt, "joined")?;
+    Ok(())
+}
+
+#[test]
+fn the_length_is_asked_once_between_two_flushes(rt: HostRuntime) -> Result<(), Fail> {
+    let alloc = rt.alloc();
+    let log = Log::new(alloc);
+    let outside = Outside::new(&rt, b"", Broken::Nothing, &log);
+    let mut machine = FileMachine::create(&outside, alloc, "asked", 2)?;
+    drop(log.take_file_calls(alloc)?);
+    let end = FileCall::Seek(SeekFrom::End(0));
+    // sectors 0, 2 and 4 don't touch
+    for at in [0u16, 2, 4] {
+        assert!(rt; at < machine.shape().pages());
+        machine.run(at, Plan::WRITE_ALL, &mut NUMBERED)?;
+    }
+    machine.flush()?;
+    let apart = [
+        end,
+        FileCall::WriteAt(0, 532),
+        FileCall::WriteAt(1_064, 532),
+        FileCall::WriteAt(2_128, 532),
+    ];
+    assert!(rt; log.take_file_calls(alloc)?.as_slice() == apart.as_slice());
+    // another process shortens the file after the flush, with which a typed line ends: what the next line writes past its end is a fault,
+    // each time that it is tried, and the file isn't made longer again
+    let file = OpenOptions::new().write(true).open(&rt, "asked")?;
+    file.set_len(12_768)?;
+    assert!(rt; 30 < machine.shape().pages());
+    machine.run(30, Plan::WRITE_ALL, &mut NUMBERED)?;
+    for _ in 0u8..2 {
+        assert!(rt; machine.flush() == Err(DiskError::Failed));
+        assert!(rt; log.take_file_calls(alloc)?.as_slice() == [end].as_slice());
+        assert!(rt; fs::metadata(&rt, "asked")?.len() == 12_768);
+    }
+    // after a fault the length is asked for again
+    file.set_len(25_536)?;
+    machine.flush()?;
+    let sector_30 = [end, FileCall::WriteAt(15_960, 532)];
+    assert!(rt; log.take_file_calls(alloc)?.as_slice() == sector_30.as_slice());
+    fs::remove_file(&rt, "asked")?;
     Ok(())
 }
 

@@ -92,6 +92,8 @@ fn a_sector_is_forgotten_after_a_fault(rt: HostRuntime) -> Result<(), Fail> {
     machine.run(7, Plan::WRITE_ALL, &mut filled(1, 2, 3))?;
     machine.run(6, Plan::WRITE_ALL, &mut filled(4, 5, 6))?;
     assert!(rt; read_at(&mut machine, 7) == Ok(filled(1, 2, 3)));
+    // after a flush the file's length is asked for again
+    machine.flush()?;
     // sector 20 is held back, and has to go ahead of sector 7, which it doesn't touch
     machine.run(20, Plan::WRITE_ALL, &mut filled(7, 8, 9))?;
     let file = OpenOptions::new().write(true).open(&rt, "forgotten")?;
