@@ -5,7 +5,6 @@ mod Ending
 mod Entries
 pub mod Finding
 pub mod Frames
-mod FreshMemory
 mod Grown
 pub mod Joining
 mod Lining

@@ -40,17 +40,20 @@ memory_at_level words is =
     subst (IsAtLevel all_levels) (sym is) ((zones_read_back w w.zone has.user has.fills).memory_is has.least has.most)
 
 -- ---- what is fresh
--- made of what opening answered and of a memory
-abbrev pub begun_of : Fields → Hints → List ℕ → ℕ → ℕ → Session
-begun_of descriptor hints memory moment limit = record { descriptor = descriptor; hints = hints; tally = record { limit = limit; passed = 0; all = 0 }; moment = moment; level = 8; memory = memory; need = false }
+-- made of what opening answered, with a fresh memory
+abbrev pub begun_of : Fields → Hints → ℕ → ℕ → Session
+begun_of descriptor hints moment limit = record { descriptor = descriptor; hints = hints; tally = record { limit = limit; passed = 0; all = 0 }; moment = moment; level = 8; memory = memory_words (fresh_world 0); need = false }
 
--- A session that was made of what opening answered, with a fresh memory.
+-- What is fresh of a session.
 pub record IsMade (moment limit : ℕ) (s : Session) : Type 0 where
   pub memory : s.memory ≡ memory_words (fresh_world 0)
   pub moment_is : s.moment ≡ moment
   pub level : s.level ≡ all_levels
   pub need : s.need ≡ false
   pub limit_is : s.tally ≡ record { limit = limit; passed = 0; all = 0 }
+
+pub is_made : (descriptor : Fields) (hints : Hints) (moment limit : ℕ) → IsMade moment limit (begun_of descriptor hints moment limit)
+is_made descriptor hints moment limit = record { memory = refl; moment_is = refl; level = refl; need = refl; limit_is = refl }
 
 module _ (moment limit : ℕ) (s : Session) (made : IsMade moment limit s) where
   keeps : KeepsFresh (kept s) moment

@@ -8,7 +8,7 @@ ghost use Rattle.pack_model.specs.states.Sentences.{EachOnce};
 ghost use Rattle.session_model.specs.Keeping.{Formed};
 ghost use Rattle.std.specs.Prelude.{IfOk, IsTrue, OnErr, OnOk, [], ◌≡◌};
 
-use crate::memory::fresh_memory;
+use crate::memory::FreshMemory;
 use crate::opening::open_pack;
 use crate::session::Session;
 use alto_words::Memory;
@@ -25,7 +25,8 @@ impl Session {
     /// `moment`, in seconds since the start of 1901, and `limit` is the number of record writes up to which the tally counts.
     ///
     /// The first of these that holds: NoRoot, NoDescriptor, WrongLength, BadDescriptor, NotClean. Misled: an address on the way to SysDir's or
-    /// DiskDescriptor's words is wrong. DiskFault: the device failed. Memory: none was left for what a session keeps.
+    /// DiskDescriptor's words is wrong. DiskFault: the device failed. Memory: none was left for what a session keeps; the words of the memory
+    /// take no room.
     pub fn begin<D: Disk>(
         alloc: Global,
         disk: &mut D,
@@ -39,10 +40,6 @@ impl Session {
         ensures cause { HasCause cause_of_open (D.tape disk.old) (D.tape disk.new) result }
         ensures alone { DiskAlone (D.tape disk.old) (D.tape disk.new) }
     {
-        let memory = match fresh_memory(alloc) {
-            Ok(memory) => memory,
-            Err(Memory) => return Err(OpenError::Memory),
-        };
         let opened = open_pack(alloc, disk)?;
         Ok(Session {
             descriptor: opened.descriptor,
@@ -54,7 +51,7 @@ impl Session {
             },
             moment,
             level: ALL_LEVELS,
-            memory,
+            memory: FreshMemory,
             need: false,
         })
     }

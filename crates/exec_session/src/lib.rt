@@ -76,6 +76,7 @@ pub use disk_descriptor::OpenError;
 pub use end::quit;
 pub use kinds::{refuse_descriptor, refuse_directory, refuse_system, require_directory};
 pub use making::{enter_file, make_entered};
+pub use memory::FreshMemory;
 pub use new_names::{name_given, refuse_held_base};
 pub use operands::{Found, ROOT, find_dir, find_path};
 pub use page_seeking::FileRef;

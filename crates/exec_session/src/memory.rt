@@ -1,24 +1,19 @@
 // The memory as a session begins.
-ghost use Rattle.session_model.specs.Worlds.{fresh_world, memory_words};
-ghost use Rattle.std.specs.Prelude.{IfOk, ◌≡◌};
 
-use alto_words::{List, Memory};
-use std::alloc::Global;
+use std::marker::Model;
 
-/// The words of a memory.
-const WORDS: usize = 65_536;
+/// The 65,536 words of the memory as a session begins: zeros, but for the size of the zone's one free block, 39,936, at word 1,024. No line
+/// changes them, so that they take no room. Contracts see the words.
+#[derive(Clone, Copy, Debug)]
+pub struct FreshMemory;
 
-/// The word where the zone begins, which holds the size of its one free block.
-const ZONE: usize = 1024;
+impl Model for FreshMemory {
+    ghost use Rattle.std.specs.Prelude.{ℕ, List};
+    ghost use Rattle.session_model.specs.Worlds.{fresh_world, memory_words};
 
-/// The words of the zone where all levels are in memory.
-const ZONE_WORDS: u16 = 39_936;
+    ghost Value = { List ℕ };
 
-/// A memory of zeros whose zone is one free block.
-pub(crate) fn fresh_memory(alloc: Global) -> Result<List<u16>, Memory>
-    ensures { IfOk result (λ words. words ≡ memory_words (fresh_world 0)) }
-{
-    let mut words = vec![in alloc; 0; WORDS]?;
-    words[ZONE] = ZONE_WORDS;
-    Ok(List::from_vec(words))
+    ghost view = { λ _. memory_words (fresh_world 0) };
+
+    ghost inverse = { λ _. record {} };
 }

@@ -1,7 +1,7 @@
 // A session: what is kept from one line to the next.
 ghost use Rattle.std.specs.Prelude.{◌≡◌};
 
-use alto_words::List;
+use crate::memory::FreshMemory;
 use disk_descriptor::Descriptor;
 use disk_records::Tally;
 use hint_cache::Hints;
@@ -19,8 +19,8 @@ pub struct Session {
     pub moment: u32,
     /// The highest level of service that is in memory, 1 to 8.
     pub level: u8,
-    /// The memory, 65,536 words.
-    pub memory: List<u16>,
+    /// The memory, 65,536 words: those of the beginning, since no line changes them.
+    pub memory: FreshMemory,
     /// Whether a hint failed since the pack was opened or scavenged.
     pub need: bool,
 }

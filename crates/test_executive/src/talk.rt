@@ -85,11 +85,10 @@ fn only_reads(line: &Line) -> bool {
     )
 }
 
-/// Whether a session has all levels, the whole memory, a bit for each sector, and the limit that it began with.
+/// Whether a session has all levels, a bit for each sector, and the limit that it began with.
 fn has_same_size(shape: Shape, session: &Session) -> bool {
     session.level() == 8
         && session.tally().limit == 7
-        && session.memory.as_slice().len() == 65_536
         && session.hints.table.pages() == shape.pages()
 }
 

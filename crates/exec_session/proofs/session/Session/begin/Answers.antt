@@ -1,6 +1,5 @@
-use Rattle.std.proofs.Common.{IfOk, Result, ap, refl, subst, sym, ◌∙◌}
+use Rattle.std.proofs.Common.{IfOk, Result, ap, subst, sym, ◌∙◌}
 use Rattle.disk_descriptor.specs.declared.errors.OpenError.{OpenError}
-use Rattle.disk_records.proofs.Growing.{alone_here, nothing_added}
 use Rattle.disk_records.specs.Addresses.{pages_of}
 use Rattle.disk_records.specs.Causes.{HasCause}
 use Rattle.disk_records.specs.Tapes.{first_pack, pack}
@@ -10,7 +9,7 @@ use Rattle.exec_session.specs.Opens.{IsFresh, Opens, cause_of_open}
 use Rattle.exec_session.specs.declared.session.Session.{Session}
 use Rattle.exec_session.proofs.PackOpening.{answer_is}
 use Rattle.directory.specs.laws_midway.proofs.loops.Laws.{each_sector_stays}
-use Rattle.exec_session.proofs.Sessions.{IsMade, begun_of, is_begun, is_formed, is_fresh}
+use Rattle.exec_session.proofs.Sessions.{begun_of, is_begun, is_formed, is_fresh, is_made}
 use Rattle.exec_session.proofs.session.Session.begin.Goals as goal
 
 pub returns-clause-opens : goal.returns-clause-opens
@@ -18,31 +17,24 @@ returns-clause-opens g c = λ told once.
     let old = g.D.Tape.tape c.args.disk.now in
     let o = c.in_ok-opened.opened in
     let opened = c.in_ok-opened.ensures.opened told once in
-    let s = begun_of o.descriptor o.hints c.in-Ok.memory c.args.moment c.args.limit in
-    let made : IsMade c.args.moment c.args.limit s = record { memory = c.in-Ok.ensures; moment_is = refl; level = refl; need = refl; limit_is = refl } in
+    let s = begun_of o.descriptor o.hints c.args.moment c.args.limit in
+    let made = is_made o.descriptor o.hints c.args.moment c.args.limit in
     (opened.0, λ sound. is_begun c.args.moment c.args.limit s made (pack old) (each_sector_stays (first_pack old) old.events (g.met.D.Disk.sized c.args.disk.now told)) sound opened.1)
 
 pub returns-clause-fresh : goal.returns-clause-fresh
 returns-clause-fresh g c =
     let o = c.in_ok-opened.opened in
-    let s = begun_of o.descriptor o.hints c.in-Ok.memory c.args.moment c.args.limit in
-    is_fresh c.args.moment c.args.limit s (record { memory = c.in-Ok.ensures; moment_is = refl; level = refl; need = refl; limit_is = refl })
+    let s = begun_of o.descriptor o.hints c.args.moment c.args.limit in
+    is_fresh c.args.moment c.args.limit s (is_made o.descriptor o.hints c.args.moment c.args.limit)
 
 pub returns-clause-formed : goal.returns-clause-formed
 returns-clause-formed g c =
     let o = c.in_ok-opened.opened in
-    let s = begun_of o.descriptor o.hints c.in-Ok.memory c.args.moment c.args.limit in
+    let s = begun_of o.descriptor o.hints c.args.moment c.args.limit in
     let form = c.in_ok-opened.ensures.looks.alone.grown.form in
     let formed = c.in_ok-opened.ensures.formed in
-    is_formed c.args.moment c.args.limit s (record { memory = c.in-Ok.ensures; moment_is = refl; level = refl; need = refl; limit_is = refl })
+    is_formed c.args.moment c.args.limit s (is_made o.descriptor o.hints c.args.moment c.args.limit)
     (g.D.Tape.tape c.open_pack.new.disk).form (formed.0 ∙ sym form) (formed.1 ∙ ap pages_of (sym form))
-
--- ---- no memory is left for the memory
-pub returns-in-Err-clause-silent : goal.returns-in-Err-clause-silent
-returns-in-Err-clause-silent g c = λ told. nothing_added (g.D.Tape.tape c.args.disk.now).events
-
-pub returns-in-Err-clause-alone : goal.returns-in-Err-clause-alone
-returns-in-Err-clause-alone g c = alone_here (g.D.Tape.tape c.args.disk.now)
 
 -- ---- the pack isn't opened
 pub returns-in_err-opened-clause-opens : goal.returns-in_err-opened-clause-opens
