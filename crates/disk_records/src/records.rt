@@ -94,7 +94,7 @@ impl Hash for Page {
 
     ghost respects_eq = { Prim.search (hashing, rules) };
 
-    /// Its words are fed as one number, since a cache hashes a page at each look and four numbers take four times as long.
+    /// Its words are fed as one number, side by side. A cache hashes a page at most looks, and four numbers would take longer.
     fn hash<H: Hasher>(&self, state: &mut H) {
         let serial = self.fid.high as u64 * 65_536 + self.fid.low as u64;
         let file = serial * 65_536 + self.fid.version as u64;
