@@ -98,10 +98,6 @@ pub taking_last : {old now : List ℕ} {before left : ℕ} {line : List ℕ} (la
 taking_last last t same end some =
     record { whole = t.whole; some = λ none. some (same ∙ t.kept ∙ ap kept_of none); took = taking_rest t end; kept = same ∙ t.kept }
 
--- the line breaks off
-pub taking_part : {old now : List ℕ} {before left : ℕ} {line : List ℕ} → Taking old now before left line → 0 < before → TookPart old now before
-taking_part t some = record { part = t.whole; unbroken = t.unbroken; split = t.split; counted = omega (arith, t.counted); some = some }
-
 -- ---- answers
 -- a list that has items
 pub some_items : (items : List ℕ) (n : ℕ) {empty : Bool} → empty ≡ (n == 0) → empty ≡ false → n ≡ length items → items ≢ []

@@ -49,6 +49,7 @@ fn keep(line: &mut Vec<u8>, keys: &[u8])
     requires short { length line.old.items ≤ 4097 }
     requires room { vec_len line.old + length keys.now ≤ vec_capacity line.old }
     ensures kept { line.new.items ≡ kept_of (line.old.items ++ keys.now) }
+    ensures capacity { vec_capacity line.old ≤ vec_capacity line.new }
 {
     let most = LONGEST_LINE + 1 - line.len();
     let kept = &keys[..most.min(keys.len())];
@@ -72,11 +73,15 @@ pub(crate) fn take_line<C: Console>(
     ensures cause { HasKeyCause (C.tape console.old) (C.tape console.new) result }
     ensures alone { KeysAlone (C.tape console.old) (C.tape console.new) }
 {
-    let mut line = Vec::new(alloc);
+    if *left == 0 {
+        return Ok(None);
+    }
+    // All room that a line may ask for, taken at once, so that its keys are never moved: it keeps at most LONGEST_LINE + 1 of them, and a
+    // piece has at most MOST_AT_ONCE more.
+    let mut line = Vec::with_capacity(alloc, LONGEST_LINE + 1 + MOST_AT_ONCE)?;
     let mut buf = [0u8; MOST_AT_ONCE];
     while *left > 0 {
         let most = MOST_AT_ONCE.min(*left as usize);
-        line.reserve(most)?;
         match next_piece(console, &mut buf[..most])? {
             Piece::End => break,
             Piece::Part(count) => {

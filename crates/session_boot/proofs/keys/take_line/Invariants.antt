@@ -1,4 +1,4 @@
-use Rattle.std.proofs.Common.{◌≡◌, ◌≤◌, length, IsTrue}
+use Rattle.std.proofs.Common.{◌≡◌, ◌≤◌, length, vec_capacity, IsTrue}
 use Rattle.disk_records.specs.Tapes.{KeysAlone}
 use Rattle.session_boot.proofs.Typing.{Taking}
 use Rattle.session_boot.proofs.keys.take_line.Given as goal
@@ -8,6 +8,7 @@ invariant-loop-left g l = record {
   alone : KeysAlone (g.C.Tape.tape l.fn.console) (g.C.Tape.tape l.console);
   left : l.left ≤ l.fn.left;
   short : length l.line.items ≤ 4097;
+  room : 5121 ≤ vec_capacity l.line;
   buffer : length l.buf ≡ 1024;
   line : IsTrue g.C.Tape.told → Taking (g.C.Tape.tape l.fn.console).keys (g.C.Tape.tape l.console).keys l.fn.left l.left l.line.items;
 }
