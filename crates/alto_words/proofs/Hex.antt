@@ -1,5 +1,5 @@
 -- Bytes in hexadecimal: digits are read in pairs, and what the crate `hex` writes is what the definitions say.
-use Rattle.std.proofs.Common.{◌≡◌, ◌≢◌, ℕ, suc, ◌+◌, ◌*◌, ◌/◌, ◌%◌, ◌<◌, get_or, Bool, true, false, ◌==◌, ◌&&◌, nat_eq, List, [], ◌∷◌, length, Option, Some, None, refl, ap, sym, ◌∙◌, arith}
+use Rattle.std.proofs.Common.{◌≡◌, ◌≢◌, ℕ, suc, ◌/◌, ◌%◌, ◌<◌, get_or, Bool, true, false, ◌==◌, ◌&&◌, nat_eq, List, [], ◌∷◌, length, Option, Some, None, refl, ap, sym, ◌∙◌, arith}
 use Rattle.std.specs.Fmt.{digit_glyph}
 use Rattle.std.specs.Char.{is_ascii_hexdigit}
 use Rattle.std.specs.List.{All, list_all}
@@ -10,22 +10,6 @@ use Rattle.std.specs.Cmp.Lexicographic.{pointwise}
 use Rattle.std.proofs.lemmas.Bool.Decides.{nat_tests}
 use Rattle.hex.specs.Hex.{encode_lower, encode_with, lower_digits}
 use Rattle.alto_words.specs.Numbers.{hex_digit, hex_byte, hex_pairs, bytes_in_hex, hex_of}
-
--- digits in pairs give the bytes that are made of their values
-pub pairs_joined : (text bytes : List ℕ) (value : ℕ → ℕ) → length text ≡ 2 * length bytes → ((k : ℕ) → k < length text → hex_digit (get_or text k 0) ≡ Some (value k))
-    → ((k : ℕ) → k < length bytes → get_or bytes k 0 ≡ value (2 * k) * 16 + value (2 * k + 1)) → hex_pairs text ≡ Some bytes
-pairs_joined [] [] value long each joined = refl
-pairs_joined [] (b ∷ bytes) value long each joined = absurd (omega (arith, long))
-pairs_joined (x ∷ []) bytes value long each joined = absurd (omega (arith, long))
-pairs_joined (x ∷ y ∷ text) [] value long each joined = absurd (omega (arith, long))
-pairs_joined (x ∷ y ∷ text) (b ∷ bytes) value long each joined =
-    let rest : hex_pairs text ≡ Some bytes =
-    pairs_joined text bytes (λ k. value (suc (suc k))) (omega (arith, long)) (λ k within. each (suc (suc k)) (omega (arith, within)))
-    (λ k within.
-    let even : 2 * suc k ≡ suc (suc (2 * k)) = omega arith in
-    let odd : 2 * suc k + 1 ≡ suc (suc (2 * k + 1)) = omega arith in
-    joined (suc k) (omega (arith, within)) ∙ (λ i. value (even i) * 16 + value (odd i))) in
-    (λ i. hex_byte (each 0 (omega arith) i) (each 1 (omega arith) i) (rest i)) ∙ ap (λ (n : ℕ). Some (n ∷ bytes)) (sym (joined 0 (omega arith)))
 
 -- a text other than no byte and `-` is read in pairs
 bytes_in_hex-pairs : (text : List ℕ) → (length text == 0) ≡ false → pointwise nat_eq text (45 ∷ []) ≡ false → bytes_in_hex text ≡ hex_pairs text

@@ -3,6 +3,7 @@ pub mod Digits
 pub mod Folding
 pub mod Forms
 pub mod Hex
+pub mod HexLanes
 pub mod Made
 pub mod Marked
 pub mod Marks

@@ -1,5 +1,5 @@
 -- Numbers in text.
-use Rattle.std.specs.Prelude.{◌≡◌, ℕ, ◌<◌, get_or, ◌+◌, ◌-◌, ◌*◌, ◌/◌, ◌%◌, ◌==◌, ◌&&◌, false, cond, nat_le, nat_lt, List, [], ◌∷◌, length, Option, Some, None}
+use Rattle.std.specs.Prelude.{ℕ, ◌+◌, ◌-◌, ◌*◌, ◌/◌, ◌%◌, ◌==◌, ◌&&◌, false, cond, nat_le, nat_lt, List, [], ◌∷◌, length, Option, Some, None}
 use Rattle.std.specs.List.{list_all, flat_map}
 use Rattle.std.specs.Fmt.{digit_glyph}
 use Rattle.alto_words.specs.Names.{is_digit, decimal_value}
@@ -29,13 +29,9 @@ hex_pairs [] = Some []
 hex_pairs (a ∷ []) = None
 hex_pairs (a ∷ b ∷ text) = hex_byte (hex_digit a) (hex_digit b) (hex_pairs text)
 
--- the first n of these digits have these values
-abbrev pub AreValues : ℕ → List ℕ → List ℕ → Type 0
-AreValues n text values = (k : ℕ) → k < n → hex_digit (get_or text k 0) ≡ Some (get_or values k 0)
-
--- the first n of these bytes are made of these values of digits in pairs
-abbrev pub AreJoined : ℕ → List ℕ → List ℕ → Type 0
-AreJoined n values bytes = (k : ℕ) → k < n → get_or bytes k 0 ≡ get_or values (2 * k) 0 * 16 + get_or values (2 * k + 1) 0
+-- the low four bits, and 9 more from 64 on: of a hexadecimal digit that is its value
+abbrev pub digit_value : ℕ → ℕ
+digit_value c = c % 16 + cond (nat_le 64 c) 9 0
 
 -- `-` is no bytes; otherwise an even number, above 0, of digits
 unfoldable pub bytes_in_hex : List ℕ → Option (List ℕ)

@@ -1,13 +1,15 @@
 // Numbers and bytes in text: decimal digits, and hexadecimal digits in pairs.
-ghost use Rattle.std.specs.Prelude.{◌≡◌, ◌++◌, ◌+◌, ◌*◌, ◌%◌, ◌<◌, ◌≤◌, length, true, false, Some, None, IfOk, OnOk, OnErr, is_some, decimal};
+ghost use Rattle.std.specs.Prelude.{◌≡◌, ◌++◌, ◌+◌, ◌*◌, ◌%◌, ◌<◌, ◌≤◌, length, take, map, true, false, Some, None, IfOk, OnOk, OnErr, is_some, decimal};
 ghost use Rattle.std.specs.Char.{is_ascii_hexdigit};
 ghost use Rattle.std.specs.Fmt.{digit_glyph};
-ghost use Rattle.std.specs.List.{All, list_all};
-ghost use Rattle.alto_words.specs.Numbers.{AreValues, AreJoined, number_in, bytes_in_hex, hex_digit, hex_pairs, hex_of};
+ghost use Rattle.std.specs.List.{list_all};
+ghost use Rattle.std.specs.Simd.Lanes.{Each1, chunk};
+ghost use Rattle.alto_words.specs.Numbers.{number_in, bytes_in_hex, digit_value, hex_digit, hex_pairs, hex_of};
 
 use crate::memory::Memory;
 use itoa::Buffer;
 use std::alloc::{AllocError, Global};
+use std::simd::prelude::*;
 
 /// Why `read_hex` gives no bytes.
 #[derive(Clone, Copy, Debug, PartialEq, Eq)]
@@ -20,6 +22,9 @@ pub enum HexError {
 
 /// The most decimal digits that `read_number` reads: those of 2^32 - 1.
 const MAX_DIGITS: usize = 10;
+
+/// How many bytes a vector has.
+const LANES: usize = 16;
 
 /// The number that a text of 1 to 10 decimal digits gives, leading zeros included; None for any
 /// other text, and for a value of 2^32 or more.
@@ -67,46 +72,73 @@ fn read_pairs(alloc: Global, text: &[u8]) -> Result<Vec<u8>, AllocError>
     requires even { length text.now % 2 ≡ 0 }
     ensures { IfOk result (λ bytes. hex_pairs text.now ≡ Some bytes.items) }
 {
-    let mut values = vec![in alloc; 0; text.len()]?;
-    put_values(text, &mut values);
     let mut bytes = vec![in alloc; 0; text.len() / 2]?;
-    join_pairs(&values, &mut bytes);
+    put_bytes(text, &mut bytes);
     Ok(bytes)
 }
 
-/// Puts the values of hexadecimal digits in the place of as many bytes. `hex::decode` branches on each digit, and this doesn't: which one
+/// Puts the bytes that digits in pairs give in the place of others. `hex::decode` branches on each digit, and this doesn't: which one
 /// comes next no processor can tell, and a guess that is wrong takes it as long as many digits.
-fn put_values(text: &[u8], values: &mut [u8])
+fn put_bytes(text: &[u8], bytes: &mut [u8])
     requires digits { list_all is_ascii_hexdigit text.now ≡ true }
-    requires length { length text.now ≡ length values.old }
-    ensures length { length values.new ≡ length text.now }
-    ensures values { AreValues (length text.now) text.now values.new }
+    requires pairs { length text.now ≡ 2 * length bytes.old }
+    ensures length { length bytes.new ≡ length bytes.old }
+    ensures bytes { hex_pairs text.now ≡ Some bytes.new }
 {
-    for at in 0..values.len() {
-        values[at] = digit_value(text[at]);
+    for at in put_byte_blocks(text, bytes)..bytes.len() {
+        bytes[at] = 16 * digit_value(text[2 * at]) + digit_value(text[2 * at + 1]);
     }
 }
 
-/// Puts the bytes that have these values of digits in pairs in the place of others.
-fn join_pairs(values: &[u8], bytes: &mut [u8])
-    requires small { All (λ value. value ≤ 15) values.now }
-    requires pairs { length values.now ≡ 2 * length bytes.old }
-    ensures length { 2 * length bytes.new ≡ length values.now }
-    ensures bytes { AreJoined (length bytes.new) values.now bytes.new }
+/// Puts the bytes of the digits of whole blocks, and gives how many bytes that are.
+fn put_byte_blocks(text: &[u8], bytes: &mut [u8]) -> usize
+    requires digits { list_all is_ascii_hexdigit text.now ≡ true }
+    requires pairs { length text.now ≡ 2 * length bytes.old }
+    ensures within { result ≤ length bytes.old }
+    ensures length { length bytes.new ≡ length bytes.old }
+    ensures bytes { hex_pairs (take (2 * result) text.now) ≡ Some (take result bytes.new) }
 {
-    for at in 0..bytes.len() {
-        bytes[at] = join_pair(values[2 * at], values[2 * at + 1]);
+    let mut at = 0;
+    while bytes.len() - at >= LANES {
+        put_byte_block(text, at, bytes);
+        at += LANES;
     }
+    at
 }
 
-/// The byte of two digits, by their values. Both stand in one word, which is shifted over itself: so a processor does it for many pairs at
-/// once.
-fn join_pair(high: u8, low: u8) -> u8
-    requires high { high ≤ 15 }
-    requires low { low ≤ 15 }
-    ensures { result ≡ high * 16 + low }
+/// Puts the block of bytes from `at` on, after the bytes of the digits before.
+#[inline(always)]
+fn put_byte_block(text: &[u8], at: usize, bytes: &mut [u8])
+    requires digits { list_all is_ascii_hexdigit text.now ≡ true }
+    requires pairs { length text.now ≡ 2 * length bytes.old }
+    requires within { at + 16 ≤ length bytes.old }
+    requires before { hex_pairs (take (2 * at) text.now) ≡ Some (take at bytes.old) }
+    ensures length { length bytes.new ≡ length bytes.old }
+    ensures bytes { hex_pairs (take (2 * (at + 16)) text.now) ≡ Some (take (at + 16) bytes.new) }
 {
-    ((u32::from(high) + 256 * u32::from(low)) * 4097 / 256 % 256) as u8
+    let front = u8x16::from_slice(&text[2 * at..]);
+    let back = u8x16::from_slice(&text[2 * at + LANES..]);
+    bytes_of_digits(front, back).copy_to_slice(&mut bytes[at..]);
+}
+
+/// The bytes of a block of digits in pairs, which is given as its first half and its second.
+#[inline(always)]
+fn bytes_of_digits(front: u8x16, back: u8x16) -> u8x16
+    requires { list_all is_ascii_hexdigit (front ++ back) ≡ true }
+    ensures length { length result ≡ 16 }
+    ensures bytes { hex_pairs (front ++ back) ≡ Some result }
+{
+    let (high, low) = front.deinterleave(back);
+    (values_of_digits(high) << 4) | values_of_digits(low)
+}
+
+/// The values of hexadecimal digits, as `digit_value` gives them.
+#[inline(always)]
+fn values_of_digits(digits: u8x16) -> u8x16
+    ensures { result ≡ map digit_value digits }
+{
+    let is_letter = digits.simd_ge(u8x16::splat(64));
+    (digits & u8x16::splat(15)) + is_letter.select(u8x16::splat(9), u8x16::splat(0))
 }
 
 /// The value of a hexadecimal digit: its low four bits are that, or 9 less where it is a letter, which bit 6 tells.
@@ -164,10 +196,59 @@ pub fn put_hex(bytes: &[u8], digits: &mut [u8])
     requires { length digits.old ≡ 2 * length bytes.now }
     ensures { digits.new ≡ hex_of bytes.now }
 {
-    for at in 0..bytes.len() {
+    for at in put_blocks(bytes, digits)..bytes.len() {
         digits[2 * at] = digit_of(bytes[at] / 16);
         digits[2 * at + 1] = digit_of(bytes[at] % 16);
     }
+}
+
+/// Puts the digits of the whole blocks of a vector's length, and gives how many bytes they have.
+fn put_blocks(bytes: &[u8], digits: &mut [u8]) -> usize
+    requires { length digits.old ≡ 2 * length bytes.now }
+    ensures within { result ≤ length bytes.now }
+    ensures length { length digits.new ≡ length digits.old }
+    ensures digits { take (2 * result) digits.new ≡ hex_of (take result bytes.now) }
+{
+    let mut at = 0;
+    while bytes.len() - at >= LANES {
+        put_block(bytes, at, digits);
+        at += LANES;
+    }
+    at
+}
+
+/// Puts the digits of the block of bytes from `at` on.
+#[inline(always)]
+fn put_block(bytes: &[u8], at: usize, digits: &mut [u8])
+    requires within { at + 16 ≤ length bytes.now }
+    requires room { length digits.old ≡ 2 * length bytes.now }
+    ensures length { length digits.new ≡ length digits.old }
+    ensures digits { take (2 * (at + 16)) digits.new ≡ take (2 * at) digits.old ++ hex_of (chunk at 16 bytes.now) }
+{
+    let (front, back) = digits_of_block(u8x16::from_slice(&bytes[at..]));
+    front.copy_to_slice(&mut digits[2 * at..]);
+    back.copy_to_slice(&mut digits[2 * at + LANES..]);
+}
+
+/// The digits of a block of bytes: those of its first half, and those of its second.
+#[inline(always)]
+fn digits_of_block(block: u8x16) -> (u8x16, u8x16)
+    ensures first { length result.0 ≡ 16 }
+    ensures second { length result.1 ≡ 16 }
+    ensures digits { result.0 ++ result.1 ≡ hex_of block }
+{
+    digits_of_values(block >> 4).interleave(digits_of_values(block & u8x16::splat(15)))
+}
+
+/// The hexadecimal digits that have these values, in lower case.
+#[inline(always)]
+fn digits_of_values(values: u8x16) -> u8x16
+    requires { Each1 (λ value. value < 16) values }
+    ensures { result ≡ map (digit_glyph false) values }
+{
+    let is_letter = values.simd_gt(u8x16::splat(9));
+    let further = is_letter.select(u8x16::splat(b'a' - 10 - b'0'), u8x16::splat(0));
+    values + u8x16::splat(b'0') + further
 }
 
 /// The hexadecimal digit that has this value, in lower case.

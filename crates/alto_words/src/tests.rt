@@ -1,5 +1,7 @@
 // Worked rows of names and of numbers in text, and each call that takes memory once with enough of it.
-use crate::{Fid, HexError, List, Name, Wanted, push_hex, push_number, read_hex, read_number};
+use crate::{
+    Fid, HexError, List, Name, Wanted, push_hex, push_number, put_hex, read_hex, read_number,
+};
 use std::cmp::Ordering;
 use std::test::Fail;
 
@@ -321,6 +323,59 @@ fn bytes_written(rt: HostRuntime) -> Result<(), Fail> {
     push_hex(rt.alloc(), &mut out, b"")?;
     push_hex(rt.alloc(), &mut out, b"\x00\x9a\xff")?;
     assert_eq!(rt; out.as_slice(), b"x009aff".as_slice());
+    Ok(())
+}
+
+/// All values of a byte, in order.
+fn all_bytes() -> [u8; 256] {
+    let mut bytes = [0; 256];
+    for at in 0..256 {
+        bytes[at] = at as u8;
+    }
+    bytes
+}
+
+/// Lengths around whole blocks of a vector's bytes.
+const LENGTHS: [usize; 7] = [0, 1, 15, 16, 17, 33, 256];
+
+#[test]
+fn digits_put_as_they_are_pushed(rt: HostRuntime) -> Result<(), Fail> {
+    let all = all_bytes();
+    for length in LENGTHS {
+        let bytes = all.get(..length).ok_or("so many bytes")?;
+        let mut pushed = Vec::new(rt.alloc());
+        push_hex(rt.alloc(), &mut pushed, bytes)?;
+        let room = bytes.len().checked_mul(2).ok_or("room")?;
+        let mut put = vec![in rt.alloc(); 0; room]?;
+        put_hex(bytes, &mut put);
+        assert_eq!(rt; put.as_slice(), pushed.as_slice());
+    }
+    Ok(())
+}
+
+#[test]
+fn bytes_read_in_either_case(rt: HostRuntime) -> Result<(), Fail> {
+    let all = all_bytes();
+    for length in [1, 15, 16, 17, 33, 256] {
+        let bytes = all.get(..length).ok_or("so many bytes")?;
+        let mut digits = Vec::new(rt.alloc());
+        push_hex(rt.alloc(), &mut digits, bytes)?;
+        assert_eq!(rt; read_hex(rt.alloc(), &digits)?.as_slice(), bytes);
+        digits.make_ascii_uppercase();
+        assert_eq!(rt; read_hex(rt.alloc(), &digits)?.as_slice(), bytes);
+    }
+    Ok(())
+}
+
+#[test]
+fn other_characters_refused_anywhere(rt: HostRuntime) -> Result<(), Fail> {
+    for at in [0, 31, 32, 40, 64, 69] {
+        for other in [b'/', b':', b'@', b'G', b'`', b'g', 0xB0, 0xE1] {
+            let mut text = vec![in rt.alloc(); b'a'; 70]?;
+            *text.get_mut(at).ok_or("so many digits")? = other;
+            assert!(rt; matches!(read_hex(rt.alloc(), &text), Err(HexError::Bad)));
+        }
+    }
     Ok(())
 }
 
