@@ -16,7 +16,7 @@ pub struct Shape {
 }
 
 impl Shape {
-    ghost use Rattle.std.specs.Prelude.{ℕ, ◌≢◌, ◌<◌, ◌↔◌, Some, IsSome, IfNone, IfSome};
+    ghost use Rattle.std.specs.Prelude.{ℕ, ◌≢◌, ◌<◌, ◌/◌, ◌%◌, ◌↔◌, Some, IsSome, IfNone, IfSome};
     ghost use Rattle.disk_records.specs.Addresses.{disks_of, cylinders_of, pages_of, real_of, descriptor_length};
 
     /// A shape of one or two disks with 2 to 406 cylinders each. None if and only if the numbers aren't these.
@@ -57,11 +57,22 @@ impl Shape {
         requires { at < pages_of self.now }
         ensures { result ≡ real_of self.now at }
     {
-        let cylinder = at / 24;
-        at % 12 * 4096
-            + cylinder % self.cylinders * 8
-            + at / 12 % 2 * 4
-            + cylinder / self.cylinders * 2
+        let (disk, cylinder) = self.arm_of(at / 24);
+        at % 12 * 4096 + cylinder * 8 + at / 12 % 2 * 4 + disk * 2
+    }
+
+    /// The disk of a cylinder, and its number there, by its number among those of all disks. There are two disks at most, so nothing is
+    /// divided: a processor takes as long to divide by a number that it learns as it runs as for twenty additions.
+    fn arm_of(&self, cylinder: u16) -> (u16, u16)
+        requires { cylinder < disks_of self.now * cylinders_of self.now }
+        ensures disk { result.0 ≡ cylinder / cylinders_of self.now }
+        ensures own { result.1 ≡ cylinder % cylinders_of self.now }
+    {
+        if cylinder < self.cylinders {
+            (0, cylinder)
+        } else {
+            (1, cylinder - self.cylinders)
+        }
     }
 
     /// The virtual address of the sector with this real address. None if and only if no sector has it with restore bit 0.
