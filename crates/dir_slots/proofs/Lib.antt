@@ -8,6 +8,7 @@ pub mod NameWords
 pub mod Writing
 pub mod Characters
 pub mod PassedOver
+pub mod Endings
 pub mod Rooms
 pub mod Runs
 pub mod Shortening

@@ -2,7 +2,7 @@
 use Rattle.std.proofs.Common.{◌≡◌, ℕ, zero, suc, ◌+◌, ◌-◌, ◌*◌, ◌/◌, ◌%◌, ◌≤◌, true, false, ◌==◌, IsTrue, List, [], ◌∷◌, ◌++◌, length, take, drop, get_or, Some, None, refl, sym, ap, ◌∙◌, subst, arith, append_assoc, append-nil}
 use Rattle.std.specs.List.{list_all}
 use Rattle.std.proofs.lemmas.Bool.{and_from, and_parts, both_ways, cond-true, eq-eqb, eqb-true, false_from_ne_true, le-leb}
-use Rattle.std.proofs.lemmas.List.{get_or-drop, get_or-map, get_or-take, length-drop, length-map, length-take-le, length_push, take_all, take_more}
+use Rattle.std.proofs.lemmas.List.{drop-drop, get_or-drop, get_or-map, get_or-take, length-drop, length-map, length-take-le, length_push, take_all, take_more, take_rest}
 use Rattle.std.proofs.lemmas.List.Elements.{All-push}
 use Rattle.std.proofs.lemmas.List.Folds.{list_all-append}
 use Rattle.alto_words.specs.Fid.{is_full_name}
@@ -271,3 +271,23 @@ passes_more p page from at n given walk on within none going before o =
     let place : walk.place + (at - from) + n ≡ walk.place + (at + n - from) = omega (arith, on) in
     subst (λ (k : ℕ). Passes p (given ++ take from page) (given ++ take (at + n) page) (record { place = k; held = walk.held; front = walk.front; ended = walk.ended })) place
     (passes_next p (given ++ take from page) (given ++ take at page) (given ++ take (at + n) page) (further walk (at - from)) (further (further walk (at - from)) n) met before meets o.other)
+
+-- ---- the rest of a page, from the end of a slot on
+pub rest_long : (rest : List ℕ) (n : ℕ) → length (take (length rest - n) (drop n rest)) ≡ length rest - n
+rest_long rest n = ap length (take_rest rest n) ∙ length-drop n rest
+
+-- where it begins, if so many words of it are left out
+pub rest_at : (page rest : List ℕ) (n : ℕ) → length rest ≤ length page → n ≤ length rest → length page - length (take (length rest - n) (drop n rest)) ≡ length page - length rest + n
+rest_at page rest n within few = omega (arith, within, few, rest_long rest n)
+
+pub rest_is : (page rest : List ℕ) (at n : ℕ) → rest ≡ drop at page → take (length rest - n) (drop n rest) ≡ drop (at + n) page
+rest_is page rest at n is = take_rest rest n ∙ ap (λ l. drop n l) is ∙ drop-drop n at page
+
+pub passes_rest : (p : Passing) (page rest : List ℕ) (from n : ℕ) (given : List ℕ) (walk : Walking) → length rest ≤ length page → from ≤ length page - length rest → rest ≡ drop (length page - length rest) page → walk.held ≡ 0 → walk.ended ≡ false
+    → Passes p (given ++ take from page) (given ++ take (length page - length rest) page) (further walk (length page - length rest - from)) → IsOtherAt p rest n
+    → Passes p (given ++ take from page) (given ++ take (length page - length (take (length rest - n) (drop n rest))) page) (further walk (length page - length (take (length rest - n) (drop n rest)) - from))
+passes_rest p page rest from n given walk within on is none going before o =
+    let at : ℕ = length page - length rest in
+    let here : IsOtherAt p (take (length page - at) (drop at page)) n = subst (λ (l : List ℕ). IsOtherAt p l n) (is ∙ sym (take_rest page at)) o in
+    subst (λ (k : ℕ). Passes p (given ++ take from page) (given ++ take k page) (further walk (k - from))) (sym (rest_at page rest n within o.within))
+    (passes_more p page from at n given walk on (omega arith) none going before here)

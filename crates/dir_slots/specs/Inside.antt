@@ -1,5 +1,5 @@
 -- What the steps of reading a slot answer, and of looking for room.
-use Rattle.std.specs.Prelude.{◌≡◌, ℕ, ◌+◌, ◌/◌, ◌%◌, ◌≤◌, ◌==◌, ◌&&◌, Bool, true, false, cond, List, [], ◌∷◌, length, take, drop, IfSome, Option, Some, None}
+use Rattle.std.specs.Prelude.{◌≡◌, ℕ, ◌+◌, ◌-◌, ◌/◌, ◌%◌, ◌≤◌, ◌==◌, ◌&&◌, Bool, true, false, cond, List, [], ◌∷◌, length, take, drop, IfSome, Option, Some, None}
 use Rattle.std.specs.List.{list_all}
 use Rattle.alto_words.specs.Names.{is_bare_name, is_name_character, is_same_name, is_stored_name}
 use Rattle.disk_records.specs.Words.{word}
@@ -67,6 +67,13 @@ pub record IsBareEntry (words : List ℕ) : Type 0 where
 pub record IsOtherEntry (name : Option (List ℕ)) (words : List ℕ) : Type 0 where
   pub entry : IsBareEntry words
   pub other : IfSome name (λ n. is_same_name (slot_name words) n ≡ false)
+
+-- An entry has another name than this one, if there is one, where the low five bits of one of these bytes aren't such: of the high byte
+-- of its last word, and of the two bytes of the word before it.
+pub record TellsOthers (name : Option (List ℕ)) (last high low : ℕ) : Type 0 where
+  pub at_last : (words : List ℕ) → length words ≡ entry_length (word words 6 / 256) → (word words (length words - 1) / 256 % 32 ≡ last → ⊥) → IfSome name (λ n. is_same_name (slot_name words) n ≡ false)
+  pub at_high : (words : List ℕ) → length words ≡ entry_length (word words 6 / 256) → (word words (length words - 1 - 1) / 256 % 32 ≡ high → ⊥) → IfSome name (λ n. is_same_name (slot_name words) n ≡ false)
+  pub at_low : (words : List ℕ) → length words ≡ entry_length (word words 6 / 256) → (word words (length words - 1 - 1) % 32 ≡ low → ⊥) → IfSome name (λ n. is_same_name (slot_name words) n ≡ false)
 
 -- The first n of these words are a slot that a scan may pass over.
 pub record IsOtherAt (passing : Passing) (words : List ℕ) (n : ℕ) : Type 0 where

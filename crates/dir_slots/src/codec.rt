@@ -21,9 +21,9 @@ const SERIAL_HIGH: usize = 1;
 
 const SERIAL_LOW: usize = 2;
 
-const VERSION: usize = 3;
+pub(crate) const VERSION: usize = 3;
 
-const ZERO: usize = 4;
+pub(crate) const ZERO: usize = 4;
 
 const LEADER_AT: usize = 5;
 
@@ -115,7 +115,7 @@ pub(crate) fn fid_of(words: &[u16]) -> Fid
 }
 
 /// Whether word 0 is the type of an entry with the length, and word 4 is 0.
-pub(crate) fn is_entry_head(words: &[u16]) -> bool
+fn is_entry_head(words: &[u16]) -> bool
     requires { 5 ≤ length words.now }
     ensures { result ≡ (word words.now 0 == 1024 + length words.now && word words.now 4 == 0) }
 {

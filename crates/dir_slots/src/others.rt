@@ -1,14 +1,15 @@
 // Slots that a scan need not be handed, judged where they stand, with no `Slot` made.
-ghost use Rattle.std.specs.Prelude.{◌≡◌, ℕ, ◌+◌, ◌-◌, ◌<◌, ◌≤◌, ◌/◌, ◌==◌, ◌++◌, true, false, List, length, take, IfSome};
+ghost use Rattle.std.specs.Prelude.{◌≡◌, ℕ, ◌+◌, ◌-◌, ◌<◌, ◌≤◌, ◌/◌, ◌==◌, ◌++◌, true, false, List, ◌∷◌, length, take, IfSome, Option};
 ghost use Rattle.std.specs.List.{list_all};
+ghost use Rattle.alto_words.specs.Fid.{is_full_name};
 ghost use Rattle.alto_words.specs.Names.{fold_case, is_name_character, is_same_name};
 ghost use Rattle.disk_records.specs.Words.{word};
-ghost use Rattle.pack_model.specs.reading.Slots.{entry_length, slot_bytes, slot_name};
-ghost use Rattle.dir_slots.specs.Inside.{IsBareEntry, IsBareSpelled, IsOtherAt, IsOtherEntry, further, is_pair};
+ghost use Rattle.pack_model.specs.reading.Slots.{entry_length, slot_bytes, slot_fid, slot_name};
+ghost use Rattle.dir_slots.specs.Inside.{IsBareEntry, IsBareSpelled, IsOtherAt, IsOtherEntry, TellsOthers, further, is_pair};
 ghost use Rattle.dir_slots.specs.Others.{Passes};
 ghost use Rattle.dir_slots.specs.Walks.{Walked, Walking};
 
-use crate::codec::{ENTRY_TYPE, MIN_ENTRY_WORDS, NAME, fid_of, is_entry_head};
+use crate::codec::{ENTRY_TYPE, MIN_ENTRY_WORDS, NAME, VERSION, ZERO, fid_of};
 use crate::slot::MAX_ENTRY_WORDS;
 use alto_words::Name;
 
@@ -21,6 +22,15 @@ pub struct Passing {
     /// those of all bare names.
     pub name: Option<Name>,
 }
+
+/// The first word of the shortest entry.
+const FEWEST: u16 = ENTRY_TYPE + MIN_ENTRY_WORDS as u16;
+
+/// That of the longest.
+const MOST: u16 = ENTRY_TYPE + MAX_ENTRY_WORDS as u16;
+
+/// The greatest version.
+const MAX_VERSION: u32 = 0xFFFE;
 
 /// What ends a name.
 const DOT: u16 = 46;
@@ -48,24 +58,85 @@ const CHARACTERS: [bool; 256] = [
     false, false, false, false, false, false, false, false, false, false,
 ];
 
+/// What tells most entries from those of a name, in whatever case: the low five bits of three bytes of its entry's last two words. The
+/// case changes none of these bits. They are worked out once, and most names of a directory differ in them.
+#[derive(Drop)]
+struct Ending {
+    /// Those of the high byte of the last word, or more than five bits where there is no name.
+    last: u8,
+    /// Those of the high byte of the word before it.
+    high: u8,
+    /// Those of its low byte.
+    low: u8,
+}
+
+/// The ending of a name, if there is one.
+fn ending_of(name: &Option<Name>) -> Ending
+    ensures { TellsOthers name.now result.last result.high result.low }
+{
+    match name {
+        Some(name) => {
+            let bytes = name.as_bytes();
+            let last = bytes.len() / 2 * 2;
+            Ending {
+                last: counted_byte(bytes, last) % 32,
+                high: counted_byte(bytes, last - 2) % 32,
+                low: counted_byte(bytes, last - 1) % 32,
+            }
+        }
+        None => Ending {
+            last: 255,
+            high: 0,
+            low: 0,
+        },
+    }
+}
+
+/// A byte of a name that has its length before it.
+fn counted_byte(name: &[u8], at: usize) -> u8
+    requires within { at ≤ length name.now }
+    requires fits { length name.now ≤ 255 }
+    ensures { result ≡ word (length name.now ∷ name.now) at }
+{
+    if at == 0 {
+        return name.len() as u8;
+    }
+    name[at - 1]
+}
+
 /// How many words the slot has that these words begin with, if all of it is here and it may be passed over. None doesn't rule that out.
-pub(crate) fn other_here(words: &[u16], passing: &Passing) -> Option<usize>
+fn other_here(words: &[u16], passing: &Passing, ending: &Ending) -> Option<usize>
+    requires { TellsOthers passing.now.name ending.now.last ending.now.high ending.now.low }
     ensures other { IfSome result (IsOtherAt passing.now words.now) }
     ensures least { IfSome result (λ n. 1 ≤ n) }
     ensures within { IfSome result (λ n. n ≤ length words.now) }
 {
     let first = *words.first()?;
-    let length = (first % ENTRY_TYPE) as usize;
-    if length == 0 || length > words.len() {
+    if first < FEWEST || MOST < first {
+        return free_here(words, passing.free);
+    }
+    let length = first as usize - ENTRY_TYPE as usize;
+    if length > words.len() {
         return None;
     }
-    if first as usize == length {
-        if !passing.free {
-            return None;
-        }
-        return Some(length);
+    if !is_other_entry(&words[..length], &passing.name, ending) {
+        return None;
     }
-    if !is_other_entry(&words[..length], &passing.name) {
+    Some(length)
+}
+
+/// How many words the free slot has that these words begin with, if they do, all of it is here, and free slots may be passed over.
+fn free_here(words: &[u16], free: bool) -> Option<usize>
+    requires { 1 ≤ length words.now }
+    ensures other { (passing : Passing) → passing.free ≡ free → IfSome result (IsOtherAt passing words.now) }
+    ensures least { IfSome result (λ n. 1 ≤ n) }
+    ensures within { IfSome result (λ n. n ≤ length words.now) }
+{
+    let length = words[0] as usize;
+    if length == 0 || length >= ENTRY_TYPE as usize || length > words.len() {
+        return None;
+    }
+    if !free {
         return None;
     }
     Some(length)
@@ -78,19 +149,28 @@ pub(crate) fn others_end(page: &[u16], from: usize, passing: &Passing) -> usize
     ensures within { result ≤ length page.now }
     ensures passes { (given : List ℕ) (walk : Walking) → walk.held ≡ 0 → walk.ended ≡ false → Walked (given ++ take from page.now) walk → Passes passing.now (given ++ take from page.now) (given ++ take result page.now) (further walk (result - from)) }
 {
-    let mut at = from;
-    while let Some(length) = other_here(&page[at..], passing) {
-        at += length;
+    let ending = ending_of(&passing.name);
+    let mut rest = &page[from..];
+    while let Some(length) = other_here(rest, passing, &ending) {
+        rest = &rest[length..];
     }
-    at
+    page.len() - rest.len()
 }
 
-/// Whether these words are the entry of a bare name that isn't this one, if there is one. False doesn't rule it out.
-fn is_other_entry(words: &[u16], name: &Option<Name>) -> bool
+/// Whether these words are the entry of a bare name that isn't this one, if there is one. Their first word is that of an entry of so
+/// many words. False doesn't rule it out.
+fn is_other_entry(words: &[u16], name: &Option<Name>, ending: &Ending) -> bool
+    requires least { 8 ≤ length words.now }
+    requires most { length words.now ≤ 26 }
+    requires first { word words.now 0 ≡ 1024 + length words.now }
+    requires ending { TellsOthers name.now ending.now.last ending.now.high ending.now.low }
     ensures { result ≡ true → IsOtherEntry name.now words.now }
 {
     if !is_bare_entry(words) {
         return false;
+    }
+    if ends_otherwise(words, ending) {
+        return true;
     }
     match name {
         Some(name) => is_named_otherwise(words, name.as_bytes()),
@@ -98,20 +178,31 @@ fn is_other_entry(words: &[u16], name: &Option<Name>) -> bool
     }
 }
 
-/// Whether these words are the entry of a bare name. False doesn't rule it out.
+/// Whether these words are the entry of a bare name. Their first word is that of an entry of so many words. False doesn't rule it out.
 fn is_bare_entry(words: &[u16]) -> bool
+    requires least { 8 ≤ length words.now }
+    requires most { length words.now ≤ 26 }
+    requires first { word words.now 0 ≡ 1024 + length words.now }
     ensures { result ≡ true → IsBareEntry words.now }
 {
-    if words.len() < MIN_ENTRY_WORDS || words.len() > MAX_ENTRY_WORDS {
-        return false;
-    }
-    if !is_entry_head(words) {
-        return false;
-    }
-    if !fid_of(words).is_full_name() {
+    if !has_full_name(words) {
         return false;
     }
     spells_bare_name(&words[NAME..])
+}
+
+/// Whether the full name in the words of an entry is one that a file can have, and word 4, after it, is 0.
+fn has_full_name(words: &[u16]) -> bool
+    requires { 5 ≤ length words.now }
+    ensures full { result ≡ true → is_full_name (slot_fid words.now) ≡ true }
+    ensures zero { result ≡ true → word words.now 4 ≡ 0 }
+{
+    // the version and word 4 as the halves of one number, which is told by fewer comparisons
+    let version = words[VERSION] as u32 + words[ZERO] as u32 * 0x1_0000;
+    if version < 1 || version > MAX_VERSION {
+        return false;
+    }
+    fid_of(words).serial() != 0
 }
 
 /// Whether these words are a byte with a length and a bare name of so many characters, with a byte 0 after it where these are even in
@@ -122,25 +213,22 @@ fn spells_bare_name(words: &[u16]) -> bool
     ensures { result ≡ true → IsBareSpelled words.now }
 {
     let first = words[0];
-    let length = first / 256;
-    if (length as usize + 2) / 2 != words.len() {
-        return false;
-    }
-    if !is_character((first % 256) as u8) {
-        return false;
-    }
     let end = words.len() - 1;
+    if (first / 512) as usize != end {
+        return false;
+    }
+    let begun = is_character((first % 256) as u8);
     if !are_pairs(&words[1..end]) {
         return false;
     }
     let last = words[end];
-    if length % 2 == 0 {
-        return last == DOT * 256;
+    if first / 256 % 2 == 0 {
+        return begun & (last == DOT * 256);
     }
     if last % 256 != DOT {
         return false;
     }
-    is_character((last / 256) as u8)
+    begun & is_character((last / 256) as u8)
 }
 
 /// Whether both bytes of each of these words may stand in a bare name.
@@ -162,6 +250,23 @@ fn is_character(c: u8) -> bool
     ensures { result ≡ is_name_character c }
 {
     CHARACTERS[c as usize]
+}
+
+/// Whether an entry has another name than the one with this ending. False doesn't rule it out.
+fn ends_otherwise(words: &[u16], ending: &Ending) -> bool
+    requires least { 8 ≤ length words.now }
+    requires size { length words.now ≡ entry_length (word words.now 6 / 256) }
+    ensures { (name : Option (List ℕ)) → TellsOthers name ending.now.last ending.now.high ending.now.low → result ≡ true → IfSome name (λ n. is_same_name (slot_name words.now) n ≡ false) }
+{
+    let end = words.len() - 1;
+    if words[end] / 256 % 32 != ending.last as u16 {
+        return true;
+    }
+    let before = words[end - 1];
+    if before % 32 != ending.low as u16 {
+        return true;
+    }
+    before / 256 % 32 != ending.high as u16
 }
 
 /// Whether an entry has another name than this one, in whatever case of its letters. False doesn't rule it out. The characters are
