@@ -1,7 +1,8 @@
--- Bytes in hex, 32 to a line: a piece at a time.
-use Rattle.std.proofs.Common.{◌≡◌, ℕ, zero, suc, ◌<◌, ◌≤◌, min, List, [], ◌∷◌, ◌++◌, length, take, drop, refl, sym, ◌∙◌, ap, arith, length-append, length-drop, append-nil}
-use Rattle.std.proofs.Math.Seq.{take-append_seam, drop-append_seam}
-use Rattle.std.proofs.lemmas.List.{take_all, drop_all}
+-- Bytes in hex, 32 to a line: whole lines, and the last one.
+use Rattle.std.proofs.Common.{◌≡◌, ℕ, zero, suc, ◌*◌, ◌/◌, ◌<◌, ◌≤◌, List, [], ◌∷◌, ◌++◌, length, take, drop, refl, sym, ◌∙◌, ap, arith, append_assoc, length-drop, append-nil}
+use Rattle.std.specs.List.{flat_map}
+use Rattle.std.specs.Simd.{first_chunks}
+use Rattle.std.proofs.lemmas.List.{take_all, drop_all, drop-drop}
 use Rattle.alto_words.specs.Numbers.{hex_of}
 use Rattle.exec_words.specs.Texts.{hex_lines, line_of}
 
@@ -17,24 +18,9 @@ enough (suc n) (suc m) (b ∷ bytes) h k =
     ap (λ t. line_of (hex_of (take 32 (b ∷ bytes))) ++ t)
     (enough n m (drop 32 (b ∷ bytes)) (omega (arith, h, length-drop 32 (b ∷ bytes))) (omega (arith, k, length-drop 32 (b ∷ bytes))))
 
--- the first piece and what is left, by how long the piece is
-record IsPiece (rest piece left : List ℕ) : Type 0 where
-  pub first : take 32 rest ≡ piece
-  pub more : drop 32 rest ≡ left
-
-is_piece : (piece left : List ℕ) → length piece ≡ min 32 (length (piece ++ left)) → IsPiece (piece ++ left) piece left
-is_piece piece [] e =
-    let n = length-append piece [] in
-    record {
-      first = take_all 32 (piece ++ []) (omega (arith, n, e)) ∙ append-nil piece;
-      more = drop_all 32 (piece ++ []) (omega (arith, n, e));
-    }
-is_piece piece (b ∷ left) e =
-    let n : length piece ≡ 32 = omega (arith, length-append piece (b ∷ left), e) in
-    record {
-      first = ap (λ k. take k (piece ++ b ∷ left)) (sym n) ∙ take-append_seam piece (b ∷ left);
-      more = ap (λ k. drop k (piece ++ b ∷ left)) (sym n) ∙ drop-append_seam piece (b ∷ left);
-    }
+-- the line of 32 bytes
+abbrev pub whole_line : List ℕ → List ℕ
+whole_line bytes = line_of (hex_of bytes)
 
 -- the line of the first 32 bytes, and those of the rest
 abbrev lines_of : List ℕ → List ℕ → List ℕ
@@ -46,10 +32,38 @@ first_line (b ∷ rest) some =
     ap (λ t. line_of (hex_of (take 32 (b ∷ rest))) ++ t)
     (enough (length rest) (length (drop 32 (b ∷ rest))) (drop 32 (b ∷ rest)) (omega (arith, length-drop 32 (b ∷ rest))) (omega arith))
 
-pub hex_lines_piece : (rest piece left : List ℕ) → rest ≡ piece ++ left → length piece ≡ min 32 (length rest) → 0 < length rest → hex_lines (length rest) rest ≡ line_of (hex_of piece) ++ hex_lines (length left) left
-hex_lines_piece rest piece left is size some =
-    let p = is_piece piece left (size ∙ ap (λ (r : List ℕ). min 32 (length r)) is) in
+-- whole lines, and those of what is left
+whole_lines : (k : ℕ) (bytes : List ℕ) → k * 32 ≤ length bytes
+    → flat_map whole_line (first_chunks 32 k bytes) ++ hex_lines (length (drop (k * 32) bytes)) (drop (k * 32) bytes) ≡ hex_lines (length bytes) bytes
+whole_lines zero bytes fit = refl
+whole_lines (suc k) bytes fit =
+    let more = whole_lines k (drop 32 bytes) (omega (arith, fit, length-drop 32 bytes)) in
+    let left : drop (suc k * 32) bytes ≡ drop (k * 32) (drop 32 bytes) = ap (λ (n : ℕ). drop n bytes) (omega arith) ∙ sym (drop-drop (k * 32) 32 bytes) in
+    ap (λ (l : List ℕ). flat_map whole_line (first_chunks 32 (suc k) bytes) ++ hex_lines (length l) l) left
+    ∙ append_assoc (whole_line (take 32 bytes)) (flat_map whole_line (first_chunks 32 k (drop 32 bytes))) (hex_lines (length (drop (k * 32) (drop 32 bytes))) (drop (k * 32) (drop 32 bytes)))
+    ∙ ap (λ t. whole_line (take 32 bytes) ++ t) more
+    ∙ sym (first_line bytes (omega (arith, fit)))
+
+-- less than a whole line
+pub no_line : (rest : List ℕ) → length rest ≡ 0 → hex_lines (length rest) rest ≡ []
+no_line [] none = refl
+no_line (b ∷ rest) none = absurd (omega arith)
+
+pub last_line : (rest : List ℕ) → length rest < 32 → 0 < length rest → hex_lines (length rest) rest ≡ line_of (hex_of rest)
+last_line rest short some =
     first_line rest some
-    ∙ ap (λ (r : List ℕ). lines_of (take 32 r) (drop 32 r)) is
-    ∙ ap (λ t. lines_of t (drop 32 (piece ++ left))) p.first
-    ∙ ap (lines_of piece) p.more
+    ∙ (λ i. lines_of (take_all 32 rest (omega (arith, short)) i) (drop_all 32 rest (omega (arith, short)) i))
+    ∙ append-nil (line_of (hex_of rest))
+
+-- all lines of bytes: the whole ones have been appended to a text, and what is left has this one or none
+pub lines_done : (out old bytes rest last : List ℕ) (lines : List (List ℕ)) (i : ℕ) → length lines ≤ i → out ++ flat_map whole_line (drop i lines) ≡ old ++ flat_map whole_line lines
+    → lines ≡ first_chunks 32 (length bytes / 32) bytes → rest ≡ drop (length bytes / 32 * 32) bytes → hex_lines (length rest) rest ≡ last
+    → out ++ last ≡ old ++ hex_lines (length bytes) bytes
+lines_done out old bytes rest last lines i past kept front back left =
+    let none : drop i lines ≡ [] = drop_all i lines past in
+    let whole : out ≡ old ++ flat_map whole_line lines = sym (append-nil out) ∙ ap (λ t. out ++ flat_map whole_line t) (sym none) ∙ kept in
+    ap (λ t. t ++ last) whole
+    ∙ append_assoc old (flat_map whole_line lines) last
+    ∙ ap (λ t. old ++ (flat_map whole_line t ++ last)) front
+    ∙ ap (λ t. old ++ (flat_map whole_line (first_chunks 32 (length bytes / 32) bytes) ++ t)) (sym left ∙ ap (λ (r : List ℕ). hex_lines (length r) r) back)
+    ∙ ap (λ t. old ++ t) (whole_lines (length bytes / 32) bytes (omega arith))

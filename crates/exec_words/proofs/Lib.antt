@@ -1,6 +1,5 @@
 pub mod Cutting
 pub mod HexLines
-mod InPlace
 pub mod Names
 pub mod Operands
 pub mod Plain

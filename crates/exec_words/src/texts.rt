@@ -7,7 +7,7 @@ ghost use Rattle.exec_words.specs.Texts.{made_text, length_text, at_text, level_
 use crate::push::{numbered, plain, push, push_bytes, push_with_number};
 use crate::reply::Stat;
 use alto_words::{Fid, Memory, Name, push_hex, push_number, put_hex};
-use disk_records::PAGE_BYTES;
+use disk_records::{LINE_END, PAGE_BYTES};
 use std::alloc::Global;
 
 /// The bytes of a full page.
@@ -16,8 +16,8 @@ const PAGE: u32 = PAGE_BYTES as u32;
 /// So many bytes are shown in hex on one line.
 const BYTES_A_LINE: usize = 32;
 
-/// The byte that ends a line.
-const LINE_END: u8 = b'\n';
+/// The digits of so many bytes.
+const DIGITS_A_LINE: usize = 2 * BYTES_A_LINE;
 
 /// Enough bytes for the end of the last line in hex and a line with the number of bytes.
 const LAST_LINES: usize = 32;
@@ -109,25 +109,29 @@ pub fn not_written_text(alloc: Global, message: &[u8]) -> Result<Vec<u8>, Memory
     Ok(out)
 }
 
-/// Appends a line of bytes in hex, whose digits are made where they stand.
-fn push_hex_line(out: &mut Vec<u8>, bytes: &[u8]) -> Result<(), Memory>
-    requires { length bytes.now ≤ 32 }
+/// Appends a whole line of bytes in hex. Its length is known when the program is built: so its digits are made where they stand.
+fn push_whole_line(out: &mut Vec<u8>, bytes: &[u8; BYTES_A_LINE]) -> Result<(), Memory>
     ensures { OnOk result (out.new.items ≡ out.old.items ++ line_of (hex_of bytes.now)) }
 {
-    let from = out.len();
-    let end = from + 2 * bytes.len();
-    out.resize(end + 1, LINE_END)?;
-    put_hex(bytes, &mut out[from..end]);
+    let mut line = [LINE_END; DIGITS_A_LINE + 1];
+    put_hex(bytes, &mut line[..DIGITS_A_LINE]);
+    out.extend_from_slice(&line)?;
     Ok(())
 }
 
 /// Appends bytes in hex, 32 to a line.
-fn push_hex_lines(out: &mut Vec<u8>, bytes: &[u8]) -> Result<(), Memory>
+fn push_hex_lines(alloc: Global, out: &mut Vec<u8>, bytes: &[u8]) -> Result<(), Memory>
     ensures { OnOk result (out.new.items ≡ out.old.items ++ hex_lines (length bytes.now) bytes.now) }
 {
-    for piece in bytes.chunks(BYTES_A_LINE) {
-        push_hex_line(out, piece)?;
+    let (lines, rest) = bytes.as_chunks::<BYTES_A_LINE>();
+    for line in lines {
+        push_whole_line(out, line)?;
     }
+    if rest.is_empty() {
+        return Ok(());
+    }
+    push_hex(alloc, out, rest)?;
+    push(out, b"\n")?;
     Ok(())
 }
 
@@ -139,7 +143,7 @@ pub fn type_text(alloc: Global, bytes: &[u8]) -> Result<Vec<u8>, Memory>
     let room = bytes.len().saturating_mul(2);
     let room = room.saturating_add(bytes.len() / BYTES_A_LINE + LAST_LINES);
     let mut out = Vec::with_capacity(alloc, room)?;
-    push_hex_lines(&mut out, bytes)?;
+    push_hex_lines(alloc, &mut out, bytes)?;
     push_number(alloc, &mut out, bytes.len() as u64)?;
     push(&mut out, b" bytes\n")?;
     Ok(out)

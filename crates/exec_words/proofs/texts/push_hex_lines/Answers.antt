@@ -1,15 +1,25 @@
-use Rattle.std.proofs.Common.{◌≡◌, ◌++◌, ℕ, min, List, length, sym, ◌∙◌, ap, append_assoc}
+use Rattle.std.proofs.Common.{◌≡◌, ◌<◌, ◌++◌, [], ◌∷◌, length, sym, ◌∙◌, ap, append_assoc, append-nil, arith}
+use Rattle.std.proofs.lemmas.Bool.Decides.{nat_tests}
 use Rattle.alto_words.specs.Numbers.{hex_of}
-use Rattle.exec_words.specs.Texts.{hex_lines, line_of}
-use Rattle.exec_words.proofs.HexLines.{hex_lines_piece}
+use Rattle.exec_words.specs.Texts.{line_of}
+use Rattle.exec_words.proofs.HexLines.{no_line, last_line, lines_done}
 use Rattle.exec_words.proofs.texts.push_hex_lines.Goals as goal
 
-regroup : (out hex more : List ℕ) → (out ++ line_of hex) ++ more ≡ out ++ (line_of hex ++ more)
-regroup out hex more = simp append_assoc
+pub returns-then-is_empty : goal.returns-then-is_empty
+returns-then-is_empty c =
+    let rest = c.as_chunks.result.1.now in
+    let none : length rest ≡ 0 = grind (arith, nat_tests) in
+    sym (append-nil c.loop-line.out.items)
+    ∙ lines_done c.loop-line.out.items c.args.out.now.items c.args.bytes.now rest [] c.as_chunks.result.0.now c.loop-line.line-index c.loop-line-test.false c.loop-line.invariant
+    c.as_chunks.ensures.front c.as_chunks.ensures.back (no_line rest none)
 
-pub loop-piece-preserved : goal.loop-piece-preserved
-loop-piece-preserved c =
-    let s = c.in-Some.ensures.steps in
-    let i = c.loop-piece.invariant in
-    let piece = hex_lines_piece c.loop-piece.piece-iterator.rest.now c.in-Some.piece.now c.next.new.self.rest.now s.1.0 (s.1.1 ∙ ap (λ n. min n (length c.loop-piece.piece-iterator.rest.now)) i.0) s.1.2 in
-    (s.0 ∙ i.0, ap (λ t. t ++ hex_lines (length c.next.new.self.rest.now) c.next.new.self.rest.now) c.in_ok-push_hex_line.ensures ∙ regroup c.loop-piece.out.items (hex_of c.in-Some.piece.now) (hex_lines (length c.next.new.self.rest.now) c.next.new.self.rest.now) ∙ ap (λ t. c.loop-piece.out.items ++ t) (sym piece) ∙ i.1)
+pub returns : goal.returns
+returns c =
+    let rest = c.as_chunks.result.1.now in
+    let some : 0 < length rest = grind (arith, nat_tests) in
+    let short : length rest < 32 = omega arith in
+    c.in_ok-push.ensures
+    ∙ ap (λ t. t ++ 10 ∷ []) c.in_ok-push_hex.ensures.ok
+    ∙ append_assoc c.loop-line.out.items (hex_of rest) (10 ∷ [])
+    ∙ lines_done c.loop-line.out.items c.args.out.now.items c.args.bytes.now rest (line_of (hex_of rest)) c.as_chunks.result.0.now c.loop-line.line-index c.loop-line-test.false c.loop-line.invariant
+    c.as_chunks.ensures.front c.as_chunks.ensures.back (last_line rest short some)

@@ -1,8 +1,7 @@
-use Rattle.std.proofs.Common.{◌≡◌, ◌++◌, length}
-use Rattle.exec_words.specs.Texts.{hex_lines}
+use Rattle.std.proofs.Common.{◌≡◌, ◌++◌, drop}
+use Rattle.std.specs.List.{flat_map}
+use Rattle.exec_words.proofs.HexLines.{whole_line}
 use Rattle.exec_words.proofs.texts.push_hex_lines.Given as goal
 
-abbrev pub invariant-loop-piece : goal.invariant-loop-piece
-invariant-loop-piece l =
-    (l.piece-iterator.size ≡ 32)
-    × (l.out.items ++ hex_lines (length l.piece-iterator.rest.now) l.piece-iterator.rest.now ≡ l.fn.out.items ++ hex_lines (length l.bytes) l.bytes)
+abbrev pub invariant-loop-line : goal.invariant-loop-line
+invariant-loop-line l = l.out.items ++ flat_map whole_line (drop l.line-index l.lines) ≡ l.fn.out.items ++ flat_map whole_line l.lines
