@@ -1,5 +1,6 @@
 pub mod Cutting
 pub mod HexLines
+pub mod LastBytes
 pub mod Names
 pub mod Operands
 pub mod Plain

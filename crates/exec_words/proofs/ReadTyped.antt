@@ -9,8 +9,8 @@ use Rattle.exec_words.specs.declared.line.Line.{Line}
 use Rattle.exec_words.specs.declared.line.Line.TheVariants as line
 use Rattle.exec_words.specs.Grammar.{grammar, read_by, words_in, typed_in, line_in, both, number_from, word_in, stream_in, bytes_in, bytes_up_to, path_in, file_in}
 use Rattle.exec_words.specs.Typed.{is_typed, is_typed_file, is_typed_path, is_typed_stream, are_typed_bytes, line_words, file_text, hex_text}
-use Rattle.exec_words.specs.Reading.{alone_rows, one_rows, bytes_rows, three_rows}
-use Rattle.exec_words.proofs.Rows.{found_or_none, rows_alone, rows_one, rows_bytes, rows_three, rows_more}
+use Rattle.exec_words.specs.Reading.{alone_rows, one_rows, three_rows}
+use Rattle.exec_words.proofs.Rows.{pair_rows, found_or_none, rows_alone, rows_one, rows_pair, rows_three, rows_more}
 use Rattle.exec_words.proofs.Shortest.{number_shortest}
 use Rattle.exec_words.proofs.ShortLines.{name_typed, file_shortest, path_shortest, hex_shortest, bytes_few, number_between, total, words_total}
 use Rattle.exec_words.proofs.TypedLines.{is_short}
@@ -105,8 +105,8 @@ one_typed verb a l e =
 
 two_typed : (verb a b : List ℕ) (l : Line) → read_by grammar (verb ∷ a ∷ b ∷ []) ≡ Some l → CanBeTyped l
 two_typed verb a b l e =
-    of_found (read_by bytes_rows (verb ∷ a ∷ b ∷ [])) (read_by grammar (verb ∷ a ∷ b ∷ [])) l (rows_bytes verb a b) e
-    (found_or_none bytes_rows (Typed (λ v. read_by bytes_rows (v ∷ a ∷ b ∷ []))) verb (a ∷ b ∷ []) (
+    of_found (read_by pair_rows (verb ∷ a ∷ b ∷ [])) (read_by grammar (verb ∷ a ∷ b ∷ [])) l (rows_pair verb a b) e
+    (found_or_none pair_rows (Typed (λ v. read_by pair_rows (v ∷ a ∷ b ∷ []))) verb (a ∷ b ∷ []) (
       of_two line.Append (file_in a) (bytes_in b) (λ f bs g h. and_from (is_typed_file f) (are_typed_bytes 2000 bs) (file_shortest a f g).typed (bytes_few 2000 b bs h).1),
       (
         of_two line.PutBytes (stream_in a) (bytes_in b) (λ s bs g h. and_from (is_typed_stream s) (are_typed_bytes 2000 bs) (number_between 0 7 a s g).1 (bytes_few 2000 b bs h).1),

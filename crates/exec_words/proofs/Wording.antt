@@ -4,7 +4,7 @@ use Rattle.std.specs.Option.{option_map, ok_or}
 use Rattle.exec_words.specs.declared.line.Line.{Line}
 use Rattle.exec_words.specs.declared.operand.Unread.{Unread}
 use Rattle.exec_words.specs.declared.operand.Unread.TheVariants as unread
-use Rattle.exec_words.specs.Grammar.{before, after, words_in, grammar, read_by}
+use Rattle.exec_words.specs.Grammar.{before, after, words_in}
 use Rattle.exec_words.specs.Reading.{Reads}
 use Rattle.exec_words.proofs.Cutting.{words_after, words_cut}
 
@@ -19,15 +19,14 @@ module _ (text word : List ℕ) (rest : Option (Bor (List ℕ))) (front : word �
   pub next_word : (x : Bor (List ℕ)) → rest ≡ Some x → words_in text ≡ word ∷ words_in x.now
   next_word x e = words_are ∙ ap (λ r. word ∷ words_after (option_map (λ y. y.now) r)) e
 
--- ---- what is read of the words is read of the text
-pub reads_words : (text : List ℕ) (words : List (List ℕ)) (result : Result Line Unread) → words_in text ≡ words → Reads result (read_by grammar words) → Reads result (read_by grammar (words_in text))
-reads_words text words result e reads = subst (λ ws. Reads result (read_by grammar ws)) (sym e) reads
+-- ---- what is read of one is read of the same
+pub reads_same : (result : Result Line Unread) (o p : Option Line) → o ≡ p → Reads result o → Reads result p
+reads_same result o p e reads = subst (λ x. Reads result x) e reads
 
 -- what is read without memory
 reads_ok_or : (o : Option Line) → Reads (ok_or o unread.Bad) o
 reads_ok_or None = refl
 reads_ok_or (Some l) = refl
 
-pub reads_option : (text : List ℕ) (words : List (List ℕ)) (o : Option Line) (result : Result Line Unread) → words_in text ≡ words → result ≡ ok_or o unread.Bad → o ≡ read_by grammar words → Reads result (read_by grammar (words_in text))
-reads_option text words o result e r x =
-    reads_words text words result e (subst (λ p. Reads result p) x (subst (λ q. Reads q o) (sym r) (reads_ok_or o)))
+pub reads_option : (o p : Option Line) (result : Result Line Unread) → result ≡ ok_or o unread.Bad → o ≡ p → Reads result p
+reads_option o p result r e = reads_same result o p e (subst (λ q. Reads q o) (sym r) (reads_ok_or o))

@@ -1,10 +1,12 @@
 -- What the functions that read lines answer.
-use Rattle.std.specs.Prelude.{◌≡◌, ℕ, codes, List, [], ◌∷◌, Option, Some, None, Result, Ok, Err}
+use Rattle.std.specs.Prelude.{◌≡◌, ℕ, cond, nat_eq, codes, List, [], ◌∷◌, Option, Some, None, Result, Ok, Err}
+use Rattle.std.specs.Cmp.Lexicographic.{pointwise}
 use Rattle.exec_words.specs.declared.operand.Unread.{Unread}
 use Rattle.exec_words.specs.declared.operand.Unread.TheVariants as unread
 use Rattle.alto_words.specs.Names.{bare_in}
 use Rattle.alto_words.specs.Numbers.{number_in}
 use Rattle.exec_words.specs.Grammar.{Form, alone, one, two, three, file_in, path_in, word_in, stream_in, number_from, bytes_in, bytes_up_to}
+use Rattle.exec_words.specs.declared.line.Line.{Line}
 use Rattle.exec_words.specs.declared.line.Line.TheVariants as line
 
 -- What is read is what the grammar gives, and nothing is read where it gives nothing, unless memory ran out.
@@ -65,13 +67,22 @@ two_rows =
     ∷ (codes "store", two word_in word_in line.Store)
     ∷ []
 
--- bytes, or two of the others
+abbrev pub three_rows : List (List ℕ × Form)
+three_rows = (codes "patch", three file_in number_in bytes_in line.Patch) ∷ []
+
+-- more than one word, of which the second isn't bytes
+abbrev pub words_rows : List (List ℕ × Form)
+words_rows = (codes "patch", three file_in number_in bytes_in line.Patch) ∷ two_rows
+
 abbrev pub bytes_rows : List (List ℕ × Form)
 bytes_rows =
     (codes "append", two file_in bytes_in line.Append)
     ∷ (codes "putb", two stream_in bytes_in line.PutBytes)
     ∷ (codes "inload", two path_in (bytes_up_to 40) line.InLoad)
-    ∷ two_rows
+    ∷ []
 
-abbrev pub three_rows : List (List ℕ × Form)
-three_rows = (codes "patch", three file_in number_in bytes_in line.Patch) ∷ []
+-- the words by the row of their verb, and otherwise what else they are
+abbrev pub read_else : List (List ℕ × Form) → List (List ℕ) → Option Line → Option Line
+read_else rows [] other = None
+read_else [] (verb ∷ more) other = other
+read_else (row ∷ rows) (verb ∷ more) other = cond (pointwise nat_eq verb row.0) (row.1 more) (read_else rows (verb ∷ more) other)

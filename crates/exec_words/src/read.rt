@@ -1,7 +1,7 @@
 // Texts as lines.
 ghost use Rattle.std.specs.Prelude.{◌≡◌, [], ◌∷◌, IfOk};
 ghost use Rattle.exec_words.specs.Grammar.{words_in, grammar, read_by, line_in};
-ghost use Rattle.exec_words.specs.Reading.{Reads, alone_rows, number_rows, path_rows, one_rows, two_rows, bytes_rows, three_rows};
+ghost use Rattle.exec_words.specs.Reading.{Reads, read_else, alone_rows, number_rows, path_rows, one_rows, two_rows, three_rows, words_rows, bytes_rows};
 
 use crate::cut::cut_at;
 use crate::line::Line;
@@ -169,28 +169,7 @@ fn with_two(verb: &[u8], first: &[u8], second: &[u8]) -> Option<Line>
     }
 }
 
-/// The line of a verb and two words.
-fn with_bytes(alloc: Global, verb: &[u8], first: &[u8], second: &[u8]) -> Result<Line, Unread>
-    ensures { Reads result (read_by bytes_rows (verb.now ∷ first.now ∷ second.now ∷ [])) }
-{
-    if verb == b"append".as_slice() {
-        let file = read_file(first).ok_or(Unread::Bad)?;
-        let bytes = read_bytes(alloc, second, MOST_BYTES)?;
-        Ok(Line::Append { file, bytes })
-    } else if verb == b"putb".as_slice() {
-        let stream = read_stream(first).ok_or(Unread::Bad)?;
-        let bytes = read_bytes(alloc, second, MOST_BYTES)?;
-        Ok(Line::PutBytes { stream, bytes })
-    } else if verb == b"inload".as_slice() {
-        let path = read_path(first).ok_or(Unread::Bad)?;
-        let message = read_bytes(alloc, second, MOST_MESSAGE)?;
-        Ok(Line::InLoad { path, message })
-    } else {
-        with_two(verb, first, second).ok_or(Unread::Bad)
-    }
-}
-
-/// The line of a verb and three words.
+/// The line of a verb, two words and what stands after these, which are bytes in hex.
 fn with_three(
     alloc: Global,
     verb: &[u8],
@@ -213,6 +192,39 @@ fn with_three(
     })
 }
 
+/// The line of a verb, a word and the words of what stands after these.
+fn with_words(alloc: Global, verb: &[u8], first: &[u8], rest: &[u8]) -> Result<Line, Unread>
+    ensures { Reads result (read_by words_rows (verb.now ∷ first.now ∷ words_in rest.now)) }
+{
+    let (second, rest) = cut_at(rest, SPACE);
+    match rest {
+        None => with_two(verb, first, second).ok_or(Unread::Bad),
+        Some(third) => with_three(alloc, verb, first, second, third),
+    }
+}
+
+/// The line of a verb, a word and what stands after these. Bytes in hex are all of that, and not its first word alone: no space is among
+/// them, and none is looked for in so long a text.
+fn with_bytes(alloc: Global, verb: &[u8], first: &[u8], rest: &[u8]) -> Result<Line, Unread>
+    ensures { Reads result (read_else bytes_rows (verb.now ∷ first.now ∷ rest.now ∷ []) (read_by words_rows (verb.now ∷ first.now ∷ words_in rest.now))) }
+{
+    if verb == b"append".as_slice() {
+        let file = read_file(first).ok_or(Unread::Bad)?;
+        let bytes = read_bytes(alloc, rest, MOST_BYTES)?;
+        Ok(Line::Append { file, bytes })
+    } else if verb == b"putb".as_slice() {
+        let stream = read_stream(first).ok_or(Unread::Bad)?;
+        let bytes = read_bytes(alloc, rest, MOST_BYTES)?;
+        Ok(Line::PutBytes { stream, bytes })
+    } else if verb == b"inload".as_slice() {
+        let path = read_path(first).ok_or(Unread::Bad)?;
+        let message = read_bytes(alloc, rest, MOST_MESSAGE)?;
+        Ok(Line::InLoad { path, message })
+    } else {
+        with_words(alloc, verb, first, rest)
+    }
+}
+
 /// The line that these words are.
 fn read_words(alloc: Global, text: &[u8]) -> Result<Line, Unread>
     ensures { Reads result (read_by grammar (words_in text.now)) }
@@ -222,16 +234,9 @@ fn read_words(alloc: Global, text: &[u8]) -> Result<Line, Unread>
         return alone(verb).ok_or(Unread::Bad);
     };
     let (first, rest) = cut_at(rest, SPACE);
-    let Some(rest) = rest else {
-        return with_one(verb, first).ok_or(Unread::Bad);
-    };
-    let (second, rest) = cut_at(rest, SPACE);
-    let Some(rest) = rest else {
-        return with_bytes(alloc, verb, first, second);
-    };
-    match cut_at(rest, SPACE) {
-        (third, None) => with_three(alloc, verb, first, second, third),
-        (_, Some(_)) => Err(Unread::Bad),
+    match rest {
+        None => with_one(verb, first).ok_or(Unread::Bad),
+        Some(rest) => with_bytes(alloc, verb, first, rest),
     }
 }
 
