@@ -1,7 +1,7 @@
 -- The bytes of a file that are read in parts, and how many sector commands they take.
-use Rattle.std.proofs.Common.{◌≡◌, ◌⊎◌, ◌≤◌, ◌<◌, ◌+◌, ◌-◌, ◌*◌, ◌/◌, ℕ, zero, suc, Bool, List, ◌++◌, length, min, take, drop, inl, inr, Result, Ok, Err, IfOk, refl, sym, ap, subst, ◌∙◌, arith}
-use Rattle.std.proofs.Math.Seq.{take-add}
-use Rattle.std.proofs.lemmas.List.{length-append, length-drop, length-take-le, take-append-le, take_all}
+use Rattle.std.proofs.Common.{◌≡◌, ◌⊎◌, ◌≤◌, ◌<◌, ◌+◌, ◌-◌, ◌*◌, ◌/◌, ℕ, zero, suc, Bool, List, ◌++◌, length, min, take, drop, replicate, append_assoc, inl, inr, Result, Ok, Err, IfOk, refl, sym, ap, subst, ◌∙◌, arith}
+use Rattle.std.proofs.Math.Seq.{take-add, take-append-add}
+use Rattle.std.proofs.lemmas.List.{length-append, length-drop, length-take-le, take-append-le, length-replicate, take-take, take_all, take_at}
 use Rattle.std.specs.Result.{IsErrAnd}
 use Rattle.alto_words.specs.declared.fid.Fid.{Fid}
 use Rattle.disk_records.specs.Packs.{Pack}
@@ -40,6 +40,36 @@ parts_end bytes k n read now h x few =
     let all : length bytes ≤ k * 4096 + n = omega (arith, many, within, few) in
     x.read ∙ ap (λ l. l ++ take n (drop (k * 4096) bytes)) h.read_are ∙ sym (take-add (k * 4096) n bytes) ∙ take_all (k * 4096 + n) bytes all
 
+-- ---- a part that is read where it stays
+-- the bytes grow by zeros
+pub grown_by_part : (at held : ℕ) (read room grown : List ℕ) → at ≡ length read → at ≡ held → grown ≡ room → room ≡ take (at + 4096) read ++ replicate (at + 4096 - held) 0 → grown ≡ read ++ replicate 4096 0
+grown_by_part at held read room grown from same lent is =
+    let all : take (at + 4096) read ≡ read = take_all (at + 4096) read (omega (arith, from)) in
+    let more : at + 4096 - held ≡ 4096 = omega (arith, same) in
+    lent ∙ is ∙ (λ i. all i ++ replicate (more i) 0)
+
+-- what is lent has a part's length
+pub part_sized : (read grown : List ℕ) (at : ℕ) → grown ≡ read ++ replicate 4096 0 → at ≡ length read → length (take (length grown - at) (drop at grown)) ≡ 4096
+part_sized read grown at same from =
+    let left : length (drop at grown) ≡ length grown - at = length-drop at grown in
+    let taken : length (take (length grown - at) (drop at grown)) ≡ length grown - at = length-take-le (length grown - at) (drop at grown) (omega (arith, left)) in
+    let zeros : List ℕ = replicate 4096 0 in
+    let many : length zeros ≡ 4096 = length-replicate {A = ℕ} 4096 0 in
+    let all : length grown ≡ length read + length zeros = ap length same ∙ length-append read zeros in
+    omega (arith, taken, all, many, from)
+
+-- the part takes the place of its zeros, and those that it hasn't are cut off
+pub part_in_place : (read grown now rest more : List ℕ) (n at long : ℕ) → grown ≡ read ++ replicate 4096 0 → at ≡ length read → n ≤ length now → at + n ≤ long → take (at + n) (take long ((take at grown ++ (now ++ rest)) ++ more)) ≡ read ++ take n now
+part_in_place read grown now rest more n at long same from fits within =
+    let front : take at grown ≡ read = ap (take at) same ∙ take_at read (replicate 4096 0) at (sym from) in
+    let joined : (read ++ (now ++ rest)) ++ more ≡ read ++ (now ++ (rest ++ more)) = simp append_assoc in
+    take-take (at + n) long ((take at grown ++ (now ++ rest)) ++ more) within
+    ∙ ap (λ l. take (at + n) ((l ++ (now ++ rest)) ++ more)) front
+    ∙ (λ i. take (from i + n) (joined i))
+    ∙ take-append-add read (now ++ (rest ++ more)) n
+    ∙ ap (λ l. read ++ l) (take-append-le n now (rest ++ more) fits)
+
+-- ---- a part after the others
 -- one part, by the call that read it into a buffer of as many bytes
 pub next_part : (bytes : List ℕ) (offset n : ℕ) (part now read new : List ℕ) → length part ≡ 4096 → IsWithinPart bytes offset part now n → new ≡ read ++ take n now → IsNextPart bytes offset read new n
 next_part bytes offset n part now read new size h is =

@@ -45,9 +45,10 @@ pub fn length_of<D: Disk>(session: &mut Session, disk: &mut D, file: &FileRef) -
     Ok(length(disk, &mut session.hints, file, &mut buf)?)
 }
 
-/// Reads the next part of a file, from the byte `offset` on, and appends it: answers how many bytes it has.
+/// Reads the next part of a file, from the byte `offset` on, to its place after the bytes that were read: answers how many bytes it has.
 ///
-/// Beyond: `offset` is past the file's length.
+/// Beyond: `offset` is past the file's length. Memory: none was left for a part, and nothing was read. After another error what stands after
+/// the bytes of before is open.
 fn append_part<D: Disk>(
     session: &mut Session,
     disk: &mut D,
@@ -66,10 +67,18 @@ fn append_part<D: Disk>(
     ensures filled { IsTrue D.told → IsNoted D.told (pack (D.tape disk.old)) file.now.fid offset session.old.hints.cache → IfOk result (λ n. n ≡ 4096 → (D.tape disk.new).runs + page_of_byte offset ≤ (D.tape disk.old).runs + (page_of_byte (offset + n - 1) + 1)) }
     ensures next { IsTrue D.told → Whole (pack (D.tape disk.old)) → LinksTrue (pack (D.tape disk.old)) → IfOk result (λ n. ListsNext D.told (pack (D.tape disk.old)) file.now.fid (offset + n) session.old.hints.cache session.new.hints.cache) }
 {
-    let mut part = [0; PART];
     let mut buf = Sector::ZEROS;
-    let count = read_part(disk, &mut session.hints, file, offset, &mut part, &mut buf)?;
-    bytes.extend_from_slice(&part[..count])?;
+    let from = bytes.len();
+    bytes.resize(from + PART, 0)?;
+    let count = read_part(
+        disk,
+        &mut session.hints,
+        file,
+        offset,
+        &mut bytes[from..],
+        &mut buf,
+    )?;
+    bytes.truncate(from + count);
     Ok(count)
 }
 
