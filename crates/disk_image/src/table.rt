@@ -79,11 +79,24 @@ impl SectorTable {
     {
         self.reach_to(first + CYLINDER_SECTORS as usize);
         for sector in 0..CYLINDER_SECTORS as usize {
-            match other.sectors.get(sector) {
-                Some(place) => self.sectors[first + sector] = *place,
-                None => self.sectors[first + sector] = None,
+            if sector < other.sectors.len() {
+                self.put_one_from(first + sector, other, sector);
+            } else {
+                self.sectors[first + sector] = None;
             }
         }
+    }
+
+    /// Puts the sector of another table's list that has this number, or None if it is missing, at this place of the list. It is copied
+    /// once, which an assignment to the place isn't.
+    fn put_one_from(&mut self, place: usize, other: &SectorTable, number: usize)
+        requires place { place < vec_len self.old.sectors }
+        requires number { number < vec_len other.now.sectors }
+        ensures long { vec_len self.new.sectors ≡ vec_len self.old.sectors }
+        ensures here { sector_in self.new place ≡ sector_in other.now number }
+        ensures others { (k : ℕ) → k ≢ place → sector_in self.new k ≡ sector_in self.old k }
+    {
+        self.sectors[place..place + 1].copy_from_slice(&other.sectors[number..number + 1]);
     }
 
     /// Has at least so many sectors in the list, the new ones missing.
