@@ -9,7 +9,7 @@ ghost use Rattle.disk_image.specs.Kept.{kept_at, ReadsKept, NoOtherChanges};
 ghost use Rattle.disk_image.specs.Records.{writes_after_all};
 
 use crate::kept::KeptSectors;
-use crate::placed::Placed;
+use crate::placed::{Failed, Placed};
 use crate::records::{read_cylinder, read_front, seek_to, seek_to_cylinder, write_back};
 use crate::spot::{CYLINDER_SECTORS, Spot};
 use disk_records::{Plan, Sector, first_mismatch, update_memory};
@@ -65,6 +65,7 @@ fn keep_cylinder_of<F: Read + Seek>(file: &mut F, spot: Spot, kept: &mut KeptSec
 
 /// The first word of memory that differs from the disk's. Where there is none, memory gets the records that the command reads or checks.
 /// Where it only reads, the sector is copied whole.
+#[inline(always)]
 pub(crate) fn compare(plan: Plan, memory: &mut Sector, disk: &Sector) -> Option<(u8, u16)>
     ensures found { result ≡ mismatch plan memory.old disk.now }
     ensures same { IfNone result (memory.new ≡ memory_after plan memory.old disk.now) }
@@ -73,6 +74,16 @@ pub(crate) fn compare(plan: Plan, memory: &mut Sector, disk: &Sector) -> Option<
         *memory = *disk;
         return None;
     }
+    compare_records(plan, memory, disk)
+}
+
+/// The same of a command that may check or write, record by record. It stands apart from those that only read, which are most, so that
+/// they make no call but the one that copies.
+#[inline(never)]
+fn compare_records(plan: Plan, memory: &mut Sector, disk: &Sector) -> Option<(u8, u16)>
+    ensures found { result ≡ mismatch plan memory.old disk.now }
+    ensures same { IfNone result (memory.new ≡ memory_after plan memory.old disk.now) }
+{
     let found = first_mismatch(plan, memory, disk);
     if found.is_none() {
         update_memory(plan, memory, disk);
@@ -88,7 +99,7 @@ pub(crate) fn write_in_file<F: FileExt + Seek>(
     plan: Plan,
     sector: &Sector,
     writes: &mut u64,
-) -> io::Result<()>
+) -> Result<(), Failed>
     ensures count { OnOk result (writes.new ≡ writes_after_all plan writes.old) }
     ensures rise { writes.old ≤ writes.new }
 {

@@ -45,7 +45,7 @@ ghost use Rattle.disk_records.specs.Tapes.{IsUnbroken};
 use crate::command::{compare, read_in_file, write_in_file};
 use crate::drives::{OnDrive, drive_of};
 use crate::kept::KeptSectors;
-use crate::placed::Placed;
+use crate::placed::{Failed, Placed};
 use disk_records::{
     Act, Console, ConsoleError, Disk, DiskError, LINE_END, Machine, Plan, Sector, Shape, Tape,
 };
@@ -292,7 +292,7 @@ where
     /// Does one sector command on a sector that is kept, or in the file of its drive, and answers the first word that differs, if one
     /// does. The other drive's file isn't touched, except by a command that writes: what is held back of it goes ahead. What is kept of
     /// other cylinders was kept before.
-    fn obey(&mut self, at: u16, plan: Plan, buf: &mut Sector) -> io::Result<Option<(u8, u16)>>
+    fn obey(&mut self, at: u16, plan: Plan, buf: &mut Sector) -> Result<Option<(u8, u16)>, Failed>
         requires place { at < pages_of (⟦<FileMachine<'a, R> as Tape>⟧.tape self.old).form }
         requires legal { IsTrue (is_legal plan) }
         ensures alone { DiskAlone (⟦<FileMachine<'a, R> as Tape>⟧.tape self.old) (⟦<FileMachine<'a, R> as Tape>⟧.tape self.new) }
@@ -380,7 +380,7 @@ where
     }
 
     /// Writes a sector as a command does, and counts its record writes. What is held back of the other drive's file goes ahead of it.
-    fn write_on_drive(&mut self, at: u16, plan: Plan, sector: &Sector) -> io::Result<()>
+    fn write_on_drive(&mut self, at: u16, plan: Plan, sector: &Sector) -> Result<(), Failed>
         requires place { at < pages_of (⟦<FileMachine<'a, R> as Tape>⟧.tape self.old).form }
         ensures alone { DiskAlone (⟦<FileMachine<'a, R> as Tape>⟧.tape self.old) (⟦<FileMachine<'a, R> as Tape>⟧.tape self.new) }
         ensures same_faults { (⟦<FileMachine<'a, R> as Tape>⟧.tape self.new).disk_faults ≡ (⟦<FileMachine<'a, R> as Tape>⟧.tape self.old).disk_faults }

@@ -17,6 +17,17 @@ use std::io;
 use std::io::{Error, ErrorKind, Read, Seek, SeekFrom};
 use std::os::unix::fs::FileExt;
 
+/// A call of the outside failed. Why it did isn't told on, as the machine only counts it: an answer with the outside's own error takes 96
+/// bytes, which each command that writes would clear and copy.
+#[derive(Drop)]
+pub(crate) struct Failed;
+
+impl From<Error> for Failed {
+    fn from(_error: Error) -> Self {
+        Failed
+    }
+}
+
 /// An open file with the place in it of the next byte that is read or written. The position that the outside has for it means nothing.
 #[derive(Drop)]
 pub(crate) struct Placed<F> {
@@ -85,7 +96,7 @@ impl<F: FileExt + Seek> Placed<F> {
     /// ahead of them, by one call, unless they may join it: so all that one call writes from a multiple of 4,096 on was taken after all that
     /// it writes before it, or together with it. Where there is no memory to hold them they are written by a call of their own. After an
     /// error the place is as it was, and what was held is held still, or was handed on.
-    pub(crate) fn put(&mut self, sector: &Sector) -> io::Result<()>
+    pub(crate) fn put(&mut self, sector: &Sector) -> Result<(), Failed>
         ensures ok { OnOk result (TakesSector self.old.at sector.now self.old.held self.new.held) }
         ensures err { OnErr result ((self.new.held ≡ self.old.held) ⊎ HoldsNone self.new.held) }
         ensures place { OnOk result (self.new.at ≡ capped (self.old.at + 532)) }

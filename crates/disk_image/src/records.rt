@@ -12,7 +12,7 @@ use crate::codec::{
     CYLINDER_BYTES, HEADER_BYTES, LABEL_BYTES, SECTOR_BYTES, VALUE_BYTES, read_sector,
 };
 use crate::kept::KeptSectors;
-use crate::placed::Placed;
+use crate::placed::{Failed, Placed};
 use crate::spot::CYLINDER_SECTORS;
 use disk_records::{Act, Plan, Sector};
 use std::io;
@@ -99,7 +99,7 @@ pub(crate) fn write_back<F: FileExt + Seek>(
     plan: Plan,
     sector: &Sector,
     writes: &mut u64,
-) -> io::Result<()>
+) -> Result<(), Failed>
     ensures bytes { OnOk result (TakesSector file.old.at sector.now file.old.held file.new.held) }
     ensures place { OnOk result (file.new.at ≡ capped (file.old.at + 532)) }
     ensures count { OnOk result (writes.new ≡ writes_after_all plan writes.old) }
