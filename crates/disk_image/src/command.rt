@@ -13,7 +13,6 @@ use crate::placed::{Failed, Placed};
 use crate::records::{read_cylinder, read_front, seek_to, seek_to_cylinder, write_back};
 use crate::spot::{CYLINDER_SECTORS, Spot};
 use disk_records::{Plan, Sector, first_mismatch, update_memory};
-use std::io;
 use std::io::{Read, Seek};
 use std::os::unix::fs::FileExt;
 
@@ -25,7 +24,7 @@ pub(crate) fn read_in_file<F: Read + Seek>(
     plan: Plan,
     buf: &mut Sector,
     kept: &mut KeptSectors,
-) -> io::Result<Option<(u8, u16)>>
+) -> Result<Option<(u8, u16)>, Failed>
     requires legal { IsTrue (is_legal plan) }
     requires not_kept { kept_at kept.old spot.at ≡ None }
     ensures checked { IfOk result (λ found. IfSome found (λ place. IsTrue (is_checked plan place.0))) }
@@ -44,7 +43,7 @@ fn compare_in_file<F: Read + Seek>(
     spot: Spot,
     plan: Plan,
     buf: &mut Sector,
-) -> io::Result<Option<(u8, u16)>>
+) -> Result<Option<(u8, u16)>, Failed>
     requires { IsTrue (is_legal plan) }
     ensures { IfOk result (λ found. IfSome found (λ place. IsTrue (is_checked plan place.0))) }
 {

@@ -328,7 +328,7 @@ where
         at: u16,
         plan: Plan,
         buf: &mut Sector,
-    ) -> io::Result<Option<(u8, u16)>>
+    ) -> Result<Option<(u8, u16)>, Failed>
         requires place { at < pages_of (⟦<FileMachine<'a, R> as Tape>⟧.tape self.old).form }
         requires legal { IsTrue (is_legal plan) }
         ensures same { (⟦<FileMachine<'a, R> as Tape>⟧.tape self.new) ≡ (⟦<FileMachine<'a, R> as Tape>⟧.tape self.old) }
@@ -354,7 +354,7 @@ where
         at: u16,
         plan: Plan,
         buf: &mut Sector,
-    ) -> io::Result<Option<(u8, u16)>>
+    ) -> Result<Option<(u8, u16)>, Failed>
         requires place { at < pages_of (⟦<FileMachine<'a, R> as Tape>⟧.tape self.old).form }
         requires legal { IsTrue (is_legal plan) }
         requires not_kept { kept_at self.old.kept at ≡ None }

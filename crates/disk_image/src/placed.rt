@@ -18,7 +18,7 @@ use std::io::{Error, ErrorKind, Read, Seek, SeekFrom};
 use std::os::unix::fs::FileExt;
 
 /// A call of the outside failed. Why it did isn't told on, as the machine only counts it: an answer with the outside's own error takes 96
-/// bytes, which each command that writes would clear and copy.
+/// bytes, which each command would clear.
 #[derive(Drop)]
 pub(crate) struct Failed;
 
