@@ -30,7 +30,8 @@
 // the length that was answered, so a session asks once for each typed line that writes a file. No write makes the file longer, unless
 // another process shortens the file after the question: the time in which it can is that from the question to the last write call before
 // the next flush. Where the file is too short by that length, or the call fails, the command fails in which that was tried, or the flush;
-// what is held back stays so and is tried again first, so nothing goes ahead of it, and the length is asked for again.
+// what is held back stays so and is tried again first, so nothing goes ahead of it, and the length is asked for again. So it is after a
+// read call that is short.
 //
 // Keys are read ahead. Those of one line that were are taken at once, and none past the line's end (`read_piece`).
 ghost use Rattle.std.specs.Prelude.{◌≡◌, ◌≢◌, ◌-◌, ◌<◌, ◌≤◌, false, [], length, take, IfOk, IfErr, OnErr};

@@ -3,8 +3,9 @@
 // memory of the file that follow each other, in an order in which one call may write them all (held.rt). They go ahead of all that is read
 // or written after them.
 //
-// The file's length is asked for before the first write call after a flush, and before the first after an error of a write call or of that
-// question. The other write calls go by the length that was answered then.
+// The file's length is asked for before the first write call after a flush, before the first after an error of a write call or of that
+// question, and before the first after a read call that brought fewer bytes than were asked for, as of a file that was shortened. The
+// other write calls go by the length that was answered then.
 ghost use Rattle.std.specs.Prelude.{◌≡◌, ◌⊎◌, ◌↔◌, ◌+◌, ◌≤◌, length, None, Some, IfSome, IsSomeAnd, IsTrue, OnOk, OnErr};
 ghost use Rattle.disk_records.specs.Tapes.{capped};
 ghost use Rattle.disk_image.specs.Holding.{HoldsNone, TakesSector};
@@ -36,7 +37,8 @@ pub(crate) struct Placed<F> {
     at: u64,
     // what was written and isn't in the file yet
     held: Held,
-    // the length in bytes that the file answered when it was asked last, where no flush and no error came since
+    // the length in bytes that the file answered when it was asked last, where since then no flush came, no error of a write call or of that
+    // question, and no read call that brought fewer bytes than were asked for
     known_length: Option<u64>,
 }
 
@@ -161,6 +163,9 @@ impl<F: FileExt + Seek> Read for Placed<F> {
     fn read(&mut self, buf: &mut [u8]) -> io::Result<usize> {
         self.hand_on()?;
         let count = self.file.read_at(buf, self.at)?;
+        if count < buf.len() {
+            self.known_length.take();
+        }
         self.at = self.at.saturating_add(count as u64);
         Ok(count)
     }
