@@ -1,24 +1,14 @@
 -- Keys of one line, taken in pieces.
-use Rattle.std.proofs.Common.{◌≡◌, ◌≢◌, ◌⊎◌, inl, inr, ℕ, ◌+◌, ◌-◌, ◌<◌, ◌≤◌, min, List, [], ◌∷◌, ◌++◌, length, get_or, take, drop, refl, sym, ◌∙◌, ap, subst, arith, append_assoc, length-append, length-take, Bool, true, false, ◌==◌, eq-eqb, Option, Some, None, Result, Ok, Err, IsErr, Vec}
-use Rattle.std.proofs.lemmas.List.{take_all, take_at, take_more, drop_all, append-nil, take-append-le}
+use Rattle.std.proofs.Common.{◌≡◌, ◌≢◌, ◌⊎◌, inl, inr, ℕ, ◌+◌, ◌-◌, ◌<◌, ◌≤◌, min, List, [], ◌∷◌, ◌++◌, length, get_or, take, drop, refl, sym, ◌∙◌, ap, subst, arith, append_assoc, length-append, length-take, Ok}
+use Rattle.std.proofs.lemmas.List.{take_all, take_at, take_more, take-take, drop_all, append-nil, take-append-le, length-take-le}
 use Rattle.std.proofs.Math.Seq.{take-append-add}
 use Rattle.std.proofs.lemmas.Bool.{cases_lt}
-use Rattle.std.specs.declared.alloc.Global.{Global}
 use Rattle.disk_records.specs.Tapes.{IsUnbroken}
 use Rattle.session_boot.specs.declared.keys.Piece.{Piece}
 use Rattle.session_boot.specs.declared.keys.Piece.TheVariants.{End, Part, Last}
-use Rattle.session_boot.specs.declared.status.Fault.{Fault}
-use Rattle.session_boot.specs.Keys.{kept_of, TookEnded, TookRest, TookLast, TookPart, TookSome, TookPiece, TookLine}
+use Rattle.session_boot.specs.Keys.{kept_of, TookEnded, TookRest, TookLast, TookSome, TookPiece}
 
 -- ---- the first n of some keys
--- more of them, as far as there is room
-pub take_room : (n : ℕ) (line keys : List ℕ) (most : ℕ) → length line ≤ n → most ≡ min (n - length line) (length keys) → line ++ take most keys ≡ take n (line ++ keys)
-take_room n line keys most short is =
-    elim (cases_lt (length keys) (n - length line)) [
-      | inl all ↦ ap (λ l. line ++ l) (take_all most keys (omega arith)) ∙ sym (take_all n (line ++ keys) (omega (arith, length-append line keys)))
-      | inr past ↦ let full : n ≡ length line + most = omega arith in sym (take-append-add line keys most) ∙ ap (λ k. take k (line ++ keys)) (sym full)
-    ]
-
 -- keys after the first n of some are dropped, or all of them are there
 pub take_again : (n : ℕ) (keys more : List ℕ) → take n (take n keys ++ more) ≡ take n (keys ++ more)
 take_again n keys more =
@@ -27,9 +17,21 @@ take_again n keys more =
       | inr past ↦ take_at (take n keys) more n (omega (arith, length-take n keys)) ∙ sym (take-append-le n keys more past)
     ]
 
--- no more than n
-pub take_short : (n : ℕ) (line keys : List ℕ) → line ≡ take n keys → length line ≤ n
-take_short n line keys is = rw is (omega (arith, length-take n keys))
+-- a piece is put after a line in a buffer, and n of them are kept
+take_more_of : (n : ℕ) (line piece after : List ℕ) (count next : ℕ) → count ≤ length piece → next ≡ min (length line + count) n → take next (line ++ (piece ++ after)) ≡ take n (line ++ take count piece)
+take_more_of n line piece after count next within is =
+    let all : take (length line + count) (line ++ (piece ++ after)) ≡ line ++ take count piece =
+    take-append-add line (piece ++ after) count ∙ ap (λ l. line ++ l) (take-append-le count piece after within) in
+    elim (cases_lt n (length line + count)) [
+      | inl past ↦
+          ap (λ k. take k (line ++ (piece ++ after))) (omega (arith, is, past))
+          ∙ sym (take-take n (length line + count) (line ++ (piece ++ after)) (omega (arith, past)))
+          ∙ ap (take n) all
+      | inr short ↦
+          ap (λ k. take k (line ++ (piece ++ after))) (omega (arith, is, short))
+          ∙ all
+          ∙ sym (take_all n (line ++ take count piece) (omega (arith, short, within, length-append line (take count piece), length-take count piece)))
+    ]
 
 -- ---- a piece of a line
 unbroken_more : (keys more : List ℕ) → IsUnbroken keys → IsUnbroken more → IsUnbroken (keys ++ more)
@@ -65,11 +67,11 @@ taking_more {part = part} rest less new t piece count is =
       kept = is ∙ ap (λ l. kept_of (l ++ part)) t.kept ∙ take_again 4097 t.whole part;
     }
 
--- a piece more, from the front of a buffer
-pub taking_piece : {old mid : List ℕ} {before left : ℕ} {line now : List ℕ} (buf after : List ℕ) (count : ℕ) (rest : List ℕ) (less : ℕ) (new : List ℕ) → Taking old mid before left line → TookSome mid rest (take count buf) → count ≤ length buf → count + less ≡ left → now ≡ line → new ≡ kept_of (now ++ take count (buf ++ after)) → Taking old rest before less new
-taking_piece {line = line} buf after count rest less new t piece within count_is same is =
-    taking_more rest less new t piece (omega (arith, length-take count buf))
-    (is ∙ ap (λ l. kept_of (l ++ take count (buf ++ after))) same ∙ ap (λ k. kept_of (line ++ k)) (take-append-le count buf after within))
+-- a piece more, put after the line in a buffer
+pub taking_piece : {old mid : List ℕ} {before left : ℕ} {line : List ℕ} (piece after : List ℕ) (kept count : ℕ) (rest : List ℕ) (less next : ℕ) → Taking old mid before left line → length line ≡ kept → TookSome mid rest (take count piece) → count ≤ length piece → count + less ≡ left → next ≡ min (kept + count) 4097 → Taking old rest before less (take next (line ++ (piece ++ after)))
+taking_piece {line = line} piece after kept count rest less next t long some within count_is is =
+    taking_more rest less (take next (line ++ (piece ++ after))) t some (omega (arith, length-take count piece, within, count_is))
+    (take_more_of 4097 line piece after count next within (omega (arith, is, long)))
 
 -- the key that ends the line
 pub taking_ended : {old new : List ℕ} {before left : ℕ} {line : List ℕ} (after : ℕ) → Taking old (10 ∷ new) before left line → after + 1 ≡ left → TookEnded old new before after line
@@ -93,17 +95,28 @@ taking_rest {old} {now} {before} t end =
     drop_at n [] b e = subst (λ m. drop m b ≡ b) e refl
     drop_at n (x ∷ a) b e = subst (λ m. drop m (x ∷ (a ++ b)) ≡ b) e (drop_at (length a) a b refl)
 
--- a last line
-pub taking_last : {old now : List ℕ} {before left : ℕ} {line : List ℕ} (last : List ℕ) → Taking old now before left line → last ≡ line → (now ≡ []) ⊎ (left ≡ 0) → last ≢ [] → TookLast old now before 0 last
-taking_last last t same end some =
-    record { whole = t.whole; some = λ none. some (same ∙ t.kept ∙ ap kept_of none); took = taking_rest t end; kept = same ∙ t.kept }
+-- a last line, at the front of a buffer
+some_kept : (buf : List ℕ) (kept : ℕ) → kept ≢ 0 → kept ≤ length buf → take kept buf ≢ []
+some_kept buf kept some within none = some (sym (length-take-le kept buf within) ∙ ap length none)
+
+pub taking_last : {old now : List ℕ} {before left : ℕ} (buf : List ℕ) (kept : ℕ) → Taking old now before left (take kept buf) → (now ≡ []) ⊎ (left ≡ 0) → kept ≢ 0 → kept ≤ length buf → TookLast old now before 0 (take kept buf)
+taking_last buf kept t end some within =
+    record { whole = t.whole; some = λ none. some_kept buf kept some within (t.kept ∙ ap kept_of none); took = taking_rest t end; kept = t.kept }
+
+-- and the buffer after it is another
+pub taking_last_of : {old now : List ℕ} {before left : ℕ} (buf after : List ℕ) (kept : ℕ) → Taking old now before left (take kept buf) → (now ≡ []) ⊎ (left ≡ 0) → kept ≢ 0 → kept ≤ length buf → TookLast old now before 0 (take kept (take kept buf ++ after))
+taking_last_of {old} {now} {before} buf after kept t end some within =
+    subst (TookLast old now before 0) (sym (take_at (take kept buf) after kept (length-take-le kept buf within))) (taking_last buf kept t end some within)
+
+-- no line
+pub taking_over : {old now : List ℕ} {before left : ℕ} {line : List ℕ} → Taking old now before left line → (now ≡ []) ⊎ (left ≡ 0) → line ≡ [] → TookRest old now before 0 []
+taking_over {old} {now} {before} t end none = subst (TookRest old now before 0) (nothing t.whole (sym none ∙ t.kept)) (taking_rest t end)
+  where
+    nothing : (whole : List ℕ) → [] ≡ kept_of whole → whole ≡ []
+    nothing [] is = refl
+    nothing (key ∷ whole) is = absurd (omega (arith, ap length is, length-take 4097 (key ∷ whole)))
 
 -- ---- answers
--- a list that has items
-pub some_items : (items : List ℕ) (n : ℕ) {empty : Bool} → empty ≡ (n == 0) → empty ≡ false → n ≡ length items → items ≢ []
-some_items [] n is not_so many none = let yes : (n == 0) ≡ true = eq-eqb n 0 many in cc
-some_items (x ∷ items) n is not_so many none = cc
-
 -- a piece was taken
 pub took_end : {piece : Piece} {old new : List ℕ} (buf : List ℕ) → piece ≡ End → TookPiece old new buf (Ok piece) → (old ≡ []) × (new ≡ [])
 took_end {old} {new} buf is t = subst (λ p. TookPiece old new buf (Ok p)) is t
@@ -113,9 +126,3 @@ took_some {old} {new} buf is t = subst (λ p. TookPiece old new buf (Ok p)) is t
 
 pub took_last : {piece : Piece} {old new : List ℕ} (buf : List ℕ) {count : ℕ} → piece ≡ Last count → TookPiece old new buf (Ok piece) → TookSome old (10 ∷ new) (take count buf)
 took_last {old} {new} buf is t = subst (λ p. TookPiece old new buf (Ok p)) is t
-
--- an answer that is an error
-pub took_part : (result : Result (Option (Vec ℕ Global)) Fault) {old new : List ℕ} {before : ℕ} (after : ℕ) → IsErr result → TookPart old new before → TookLine old new before after result
-took_part (Ok (Some line)) after wrong p = absurd (cc)
-took_part (Ok None) after wrong p = absurd (cc)
-took_part (Err e) after wrong p = p

@@ -1,6 +1,5 @@
 -- Keys taken in pieces of lines, and as lines.
-use Rattle.std.specs.Prelude.{◌≡◌, ◌≢◌, ◌⊎◌, ℕ, ◌+◌, ◌<◌, ◌≤◌, List, [], ◌∷◌, ◌++◌, length, take, drop, Option, Some, None, Result, Ok, Err, OnOk, IfErr, Vec}
-use Rattle.std.specs.declared.alloc.Global.{Global}
+use Rattle.std.specs.Prelude.{◌≡◌, ◌≢◌, ◌⊎◌, ℕ, ◌+◌, ◌<◌, ◌≤◌, List, [], ◌∷◌, ◌++◌, length, take, drop, Option, Some, None, Result, Ok, Err, OnOk, IfErr}
 use Rattle.disk_records.specs.Events.{IsFirstOf, shown_events}
 use Rattle.disk_records.specs.Tapes.{Taped, IsUnbroken, added}
 use Rattle.session_boot.specs.declared.keys.Piece.{Piece}
@@ -63,10 +62,11 @@ pub record TookPart (old new : List ℕ) (before : ℕ) : Type 0 where
   pub counted : length part ≤ before
   pub some : 0 < before
 
-abbrev pub TookLine : List ℕ → List ℕ → ℕ → ℕ → Result (Option (Vec ℕ Global)) Fault → Type 0
-TookLine old new before after (Ok (Some line)) = TookWhole old new before after line.items
-TookLine old new before after (Ok None) = TookRest old new before after []
-TookLine old new before after (Err e) = TookPart old new before
+-- what was taken of a line, with so many bytes of it kept at the front of the buffer
+abbrev pub TookLine : List ℕ → List ℕ → ℕ → ℕ → List ℕ → Result (Option ℕ) Fault → Type 0
+TookLine old new before after buf (Ok (Some kept)) = TookWhole old new before after (take kept buf)
+TookLine old new before after buf (Ok None) = TookRest old new before after []
+TookLine old new before after buf (Err e) = TookPart old new before
 
 -- bytes that are shown: all of them at Ok, a prefix where the display failed, else none
 pub record ShownAll (bytes : List ℕ) (old new : Taped) (result : Result (Unit {0}) Fault) : Type 0 where

@@ -6,7 +6,7 @@ ghost use Rattle.session_boot.specs.Faults.{HasFaultCause, HasStatusCause, Unles
 ghost use Rattle.session_model.specs.Keeping.{Formed};
 ghost use Rattle.std.specs.Prelude.{IsTrue, OnOk, ◌≡◌};
 
-use crate::keys::MOST_KEYS;
+use crate::keys::{LINE_ROOM, MOST_KEYS};
 use crate::line::{Next, answer_next, end_session};
 use crate::opening::{begin_and_flush, refuse_pack};
 use crate::status::{Fault, Status, status_of_need};
@@ -34,9 +34,11 @@ fn obey_lines<M: Machine>(
     ensures handed_on { OnOk result (M.handed_on machine.new) }
     ensures grown { Grown (M.tape machine.old) (M.tape machine.new) }
 {
+    // One buffer for all lines: each is taken where the last one stood.
+    let mut buffer = [0u8; LINE_ROOM];
     let mut left = MOST_KEYS;
     'lines: for _ in 0..MOST_KEYS {
-        match answer_next(alloc, machine, session, &mut left)? {
+        match answer_next(alloc, machine, session, &mut buffer, &mut left)? {
             Some(Next::More) => {}
             Some(Next::Over) => return Ok(()),
             None => break,

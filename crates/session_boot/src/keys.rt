@@ -1,12 +1,11 @@
 // Keys as lines.
-ghost use Rattle.std.specs.Prelude.{◌≡◌, ◌+◌, ◌<◌, ◌≤◌, ◌++◌, length, vec_len, vec_capacity, IfOk, IsTrue};
+ghost use Rattle.std.specs.Prelude.{◌≡◌, ◌<◌, ◌≤◌, length, IfOk, IfSome, IsTrue};
 ghost use Rattle.disk_records.specs.Tapes.{KeysAlone};
 ghost use Rattle.session_boot.specs.Faults.{HasKeyCause};
-ghost use Rattle.session_boot.specs.Keys.{FitsIn, TookLine, TookPiece, kept_of};
+ghost use Rattle.session_boot.specs.Keys.{FitsIn, TookLine, TookPiece};
 
 use crate::status::Fault;
 use disk_records::{Console, ConsoleError, LINE_END};
-use std::alloc::Global;
 
 /// At most 2^31 typed bytes are obeyed in one session.
 pub(crate) const MOST_KEYS: u32 = 1 << 31;
@@ -14,8 +13,8 @@ pub(crate) const MOST_KEYS: u32 = 1 << 31;
 /// A line has at most 4,096 bytes; a longer one is read to its end and is a bad line.
 pub(crate) const LONGEST_LINE: usize = 4096;
 
-/// So many keys at most are asked for at once.
-const MOST_AT_ONCE: usize = 1024;
+/// The bytes of a buffer for lines: those that are kept of the longest one, and 1,024 more, so that there is always room for a piece.
+pub(crate) const LINE_ROOM: usize = LONGEST_LINE + 1 + 1024;
 
 /// What one call takes of a line: a piece of it, at the front of a buffer.
 enum Piece {
@@ -44,60 +43,43 @@ fn next_piece<C: Console>(console: &mut C, buf: &mut [u8]) -> Result<Piece, Faul
     }
 }
 
-/// Keeps keys of a line, as long as the line isn't longer than a line may be. It has room for them.
-fn keep(line: &mut Vec<u8>, keys: &[u8])
-    requires short { length line.old.items ≤ 4097 }
-    requires room { vec_len line.old + length keys.now ≤ vec_capacity line.old }
-    ensures kept { line.new.items ≡ kept_of (line.old.items ++ keys.now) }
-    ensures capacity { vec_capacity line.old ≤ vec_capacity line.new }
-{
-    let most = LONGEST_LINE + 1 - line.len();
-    let kept = &keys[..most.min(keys.len())];
-    match line.extend_from_slice(kept) {
-        Ok(()) => {}
-        Err(_) => unreachable!(),
-    }
-}
-
-/// Takes the keys of one line by `read_piece`, which never goes past its end, and answers its first 4,097 bytes, without the
-/// byte 10 that ends it. The last line may end with the input. `left` is the number of keys that still count; None where no
-/// key is left of them, and from then on. Memory for the keys is taken before they are, so a line that was taken whole is
-/// never lost.
+/// Takes the keys of one line by `read_piece`, which never goes past its end, to the front of `buffer`, and answers how many bytes it
+/// keeps of them: the first 4,097, without the byte 10 that ends the line. The last line may end with the input. `left` is the number
+/// of keys that still count; None where no key is left of them, and from then on. No memory is asked for, so a line that was taken whole
+/// is never lost.
 pub(crate) fn take_line<C: Console>(
-    alloc: Global,
     console: &mut C,
+    buffer: &mut [u8],
     left: &mut u32,
-) -> Result<Option<Vec<u8>>, Fault>
+) -> Result<Option<usize>, Fault>
+    requires room { 4097 < length buffer.old }
     ensures left { left.new ≤ left.old }
-    ensures line { IsTrue C.told → TookLine (C.tape console.old).keys (C.tape console.new).keys left.old left.new result }
+    ensures line { IsTrue C.told → TookLine (C.tape console.old).keys (C.tape console.new).keys left.old left.new buffer.new result }
+    ensures fits { IfOk result (λ line. IfSome line (λ kept. kept ≤ length buffer.old)) }
     ensures cause { HasKeyCause (C.tape console.old) (C.tape console.new) result }
     ensures alone { KeysAlone (C.tape console.old) (C.tape console.new) }
 {
-    if *left == 0 {
-        return Ok(None);
-    }
-    // All room that a line may ask for, taken at once, so that its keys are never moved: it keeps at most LONGEST_LINE + 1 of them, and a
-    // piece has at most MOST_AT_ONCE more.
-    let mut line = Vec::with_capacity(alloc, LONGEST_LINE + 1 + MOST_AT_ONCE)?;
-    let mut buf = [0u8; MOST_AT_ONCE];
+    // A piece is put right after what is kept. Of an overlong line each writes over what the last one put past the first 4,097 bytes.
+    let mut kept = 0;
     while *left > 0 {
-        let most = MOST_AT_ONCE.min(*left as usize);
-        match next_piece(console, &mut buf[..most])? {
+        let room = buffer.len() - kept;
+        let most = room.min(*left as usize);
+        match next_piece(console, &mut buffer[kept..kept + most])? {
             Piece::End => break,
             Piece::Part(count) => {
-                keep(&mut line, &buf[..count]);
+                kept = (kept + count).min(LONGEST_LINE + 1);
                 *left -= count as u32;
             }
             Piece::Last(count) => {
-                keep(&mut line, &buf[..count]);
+                kept = (kept + count).min(LONGEST_LINE + 1);
                 *left -= count as u32 + 1;
-                return Ok(Some(line));
+                return Ok(Some(kept));
             }
         }
     }
     *left = 0;
-    if line.is_empty() {
+    if kept == 0 {
         return Ok(None);
     }
-    Ok(Some(line))
+    Ok(Some(kept))
 }

@@ -9,7 +9,7 @@ ghost use Rattle.session_model.specs.Answering.{TakesTurns};
 ghost use Rattle.session_model.specs.Ending.{cue_of};
 ghost use Rattle.session_model.specs.Keeping.{Formed};
 ghost use Rattle.session_model.specs.Turning.{cue_for, ended};
-ghost use Rattle.std.specs.Prelude.{IfOk, IfSome, IsErrOf, IsTrue, OnOk, ◌≡◌};
+ghost use Rattle.std.specs.Prelude.{IfOk, IfSome, IsErrOf, IsTrue, OnOk, length, ◌<◌, ◌≡◌};
 
 use crate::console::show_reply;
 use crate::keys::take_line;
@@ -112,13 +112,15 @@ fn answer_line<M: Machine>(
     Ok(next)
 }
 
-/// Takes the keys of the next line and answers it; None where no key is left that counts. `left` is the number of those that do.
+/// Takes the keys of the next line to `buffer` and answers it; None where no key is left that counts. `left` is the number of those that do.
 pub(crate) fn answer_next<M: Machine>(
     alloc: Global,
     machine: &mut M,
     session: &mut Session,
+    buffer: &mut [u8],
     left: &mut u32,
 ) -> Result<Option<Next>, Fault>
+    requires room { 4097 < length buffer.old }
     requires formed { Formed (M.tape machine.old).form (kept session.old) }
     ensures next { IsTrue M.told → NextTurn (M.tape machine.old) (M.tape machine.new) (kept session.old) (kept session.new) left.old left.new result }
     ensures limit { (kept session.new).tally.limit ≡ (kept session.old).tally.limit }
@@ -127,10 +129,11 @@ pub(crate) fn answer_next<M: Machine>(
     ensures handed_on { IfOk result (λ next. IfSome next (λ over. M.handed_on machine.new)) }
     ensures grown { Grown (M.tape machine.old) (M.tape machine.new) }
 {
-    let Some(text) = take_line(alloc, machine, left)? else {
+    let Some(len) = take_line(machine, buffer, left)? else {
         return Ok(None);
     };
-    let next = answer_line(alloc, machine, session, &text)?;
+    let text = &buffer[..len];
+    let next = answer_line(alloc, machine, session, text)?;
     Ok(Some(next))
 }
 

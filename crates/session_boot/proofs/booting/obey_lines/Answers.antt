@@ -13,6 +13,7 @@ use Rattle.session_boot.proofs.booting.obey_lines.Goals.{else-lines-test, then-l
 pub lines-init : goal.lines-init
 lines-init g c = record {
   grown = grown_here (g.M.Tape.tape c.args.machine.now);
+  room = omega arith;
   formed = c.requires.formed;
   limit = refl;
   so_far = λ told moment first given limit opened sound is_begun. starts moment first (g.M.Tape.tape c.args.machine.now) given (kept c.args.session.now) opened is_begun;
@@ -38,6 +39,7 @@ returns-in-Some-Over-clause-lasts g c = λ told moment first given limit opened 
 pub lines-preserved : goal.lines-preserved
 lines-preserved g c = record {
   grown = grown_twice c.lines.invariant.grown c.answer_next.ensures.grown;
+  room = omega (arith, c.lines.invariant.room, c.answer_next.auto.buffer);
   formed = c.answer_next.ensures.formed;
   limit = c.answer_next.ensures.limit ∙ c.lines.invariant.limit;
   so_far = λ told moment first given limit opened sound is_begun.

@@ -1,4 +1,4 @@
-use Rattle.std.proofs.Common.{◌≡◌, ◌<◌, ◌^◌, ℕ, IsTrue}
+use Rattle.std.proofs.Common.{◌≡◌, ◌<◌, ◌^◌, ℕ, IsTrue, length}
 use Rattle.disk_records.specs.declared.records.Tally.{Tally}
 use Rattle.disk_records.specs.Tapes.{Grown, Taped, pack}
 use Rattle.exec_session.specs.Meant.{kept}
@@ -15,6 +15,7 @@ invariant-lines g l =
     let now = g.M.Tape.tape l.machine in
     record {
       grown : Grown old now;
+      room : 4097 < length l.buffer;
       formed : Formed now.form (kept l.session);
       limit : (kept l.session).tally.limit ≡ (kept l.fn.session).tally.limit;
       so_far : IsTrue g.M.Tape.told → (moment : ℕ) (first : Taped) (given : Tally) → given.limit < 2 ^ 64 → OpenedBy first old → Sound (pack first) → Begun (pack first) (kept l.fn.session) moment given.limit → SoFar moment first given now (kept l.session) l.left l.counter;

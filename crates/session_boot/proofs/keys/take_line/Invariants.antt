@@ -1,4 +1,4 @@
-use Rattle.std.proofs.Common.{◌≡◌, ◌≤◌, length, vec_capacity, IsTrue}
+use Rattle.std.proofs.Common.{◌≤◌, take, IsTrue}
 use Rattle.disk_records.specs.Tapes.{KeysAlone}
 use Rattle.session_boot.proofs.Typing.{Taking}
 use Rattle.session_boot.proofs.keys.take_line.Given as goal
@@ -7,10 +7,8 @@ abbrev pub invariant-loop-left : goal.invariant-loop-left
 invariant-loop-left g l = record {
   alone : KeysAlone (g.C.Tape.tape l.fn.console) (g.C.Tape.tape l.console);
   left : l.left ≤ l.fn.left;
-  short : length l.line.items ≤ 4097;
-  room : 5121 ≤ vec_capacity l.line;
-  buffer : length l.buf ≡ 1024;
-  line : IsTrue g.C.Tape.told → Taking (g.C.Tape.tape l.fn.console).keys (g.C.Tape.tape l.console).keys l.fn.left l.left l.line.items;
+  short : l.kept ≤ 4097;
+  line : IsTrue g.C.Tape.told → Taking (g.C.Tape.tape l.fn.console).keys (g.C.Tape.tape l.console).keys l.fn.left l.left (take l.kept l.buffer);
 }
 
 abbrev pub decreases-loop-left : goal.decreases-loop-left
