@@ -54,7 +54,7 @@ ODD = (
     "|quit now|settime -1|settime 4294967296|append A|append A 4|append A 0x|patch A 0|patch A - 00|cut A 0a|type \u00c1|counterjunta"
     "|scavenge|open A|get 0 1|putb 0 00|seek 0 0|close 0|store 1 2|fetch 1|block 7|unblock 1025|junta 5|outload A|inload A -"
 ).split("|")
-ODD += [f"append A {'00' * 2001}", f"make {'a' * 39}", f"make {'a' * 37}!2", "x" * 4_096, "x" * 4_097, "x" * 9_000, *FULL]
+ODD += [f"append A {'00' * 2001}", f"make {'a' * 39}", f"make {'a' * 37}!2", *("x" * length for length in (4_096, 4_097, 5_120, 5_121, 5_122, 9_000)), *FULL]
 # what spoils a line, mostly
 FAULTS = [" {}", "{} ", "{} A", "{}\t", "{}\r", "{}\0", "{}\u00ff"]
 

@@ -191,7 +191,7 @@ fn is_bare_entry(words: &[u16]) -> bool
     spells_bare_name(&words[NAME..])
 }
 
-/// Whether the full name in the words of an entry is one that a file can have, and word 4, after it, is 0.
+/// Whether the full name in the words of an entry is one that a file can have, and word 4, after it, is 0. False doesn't rule it out.
 fn has_full_name(words: &[u16]) -> bool
     requires { 5 ≤ length words.now }
     ensures full { result ≡ true → is_full_name (slot_fid words.now) ≡ true }
@@ -270,7 +270,7 @@ fn ends_otherwise(words: &[u16], ending: &Ending) -> bool
 }
 
 /// Whether an entry has another name than this one, in whatever case of its letters. False doesn't rule it out. The characters are
-/// compared from the last one before the final `.` to the first, since names such as `F1.` and `F2.` differ at their end.
+/// compared from the last one before the final `.` to the first. Few entries come here, since most others are told by their ending.
 fn is_named_otherwise(words: &[u16], name: &[u8]) -> bool
     requires { length words.now ≡ entry_length (word words.now 6 / 256) }
     ensures { result ≡ true → is_same_name (slot_name words.now) name.now ≡ false }
@@ -293,7 +293,7 @@ fn is_named_otherwise(words: &[u16], name: &[u8]) -> bool
 fn is_same_character(own: u8, other: u8) -> bool
     ensures { result ≡ (fold_case own == fold_case other) }
 {
-    // the case changes none of the low five bits, and most pairs differ in them
+    // the case changes none of the low five bits
     own % 32 == other % 32 && own.to_ascii_lowercase() == other.to_ascii_lowercase()
 }
 

@@ -47,8 +47,7 @@ pub fn length_of<D: Disk>(session: &mut Session, disk: &mut D, file: &FileRef) -
 
 /// Reads the next part of a file, from the byte `offset` on, to its place after the bytes that were read: answers how many bytes it has.
 ///
-/// Beyond: `offset` is past the file's length. Memory: none was left for a part, and nothing was read. After another error what stands after
-/// the bytes of before is open.
+/// Beyond: `offset` is past the file's length. Memory: none was left for a part. After an error the bytes are of no use.
 fn append_part<D: Disk>(
     session: &mut Session,
     disk: &mut D,

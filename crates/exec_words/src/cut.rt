@@ -7,7 +7,7 @@ ghost use Rattle.exec_words.specs.Grammar.{is_byte, before, after};
 fn first_place(text: &[u8], byte: u8) -> Option<usize>
     ensures { result ≡ position (is_byte byte) text.now }
 {
-    // a long word has no such byte, which is found many bytes at a time
+    // a long word of a bad line has no such byte, which is seen many bytes at a time
     if !text.contains(&byte) {
         return None;
     }

@@ -169,7 +169,7 @@ fn with_two(verb: &[u8], first: &[u8], second: &[u8]) -> Option<Line>
     }
 }
 
-/// The line of a verb, two words and what stands after these, which are bytes in hex.
+/// The line of a verb, two words and what stands after these, which has to be bytes in hex.
 fn with_three(
     alloc: Global,
     verb: &[u8],

@@ -109,7 +109,7 @@ pub fn not_written_text(alloc: Global, message: &[u8]) -> Result<Vec<u8>, Memory
     Ok(out)
 }
 
-/// Appends a whole line of bytes in hex. Its length is known when the program is built: so its digits are made where they stand.
+/// Appends a whole line of bytes in hex, which is made in an array. Its length is known when the program is built, so it is copied by moves.
 fn push_whole_line(out: &mut Vec<u8>, bytes: &[u8; BYTES_A_LINE]) -> Result<(), Memory>
     ensures { OnOk result (out.new.items ≡ out.old.items ++ line_of (hex_of bytes.now)) }
 {

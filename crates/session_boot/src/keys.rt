@@ -45,8 +45,10 @@ fn next_piece<C: Console>(console: &mut C, buf: &mut [u8]) -> Result<Piece, Faul
 
 /// Takes the keys of one line by `read_piece`, which never goes past its end, to the front of `buffer`, and answers how many bytes it
 /// keeps of them: the first 4,097, without the byte 10 that ends the line. The last line may end with the input. `left` is the number
-/// of keys that still count; None where no key is left of them, and from then on. No memory is asked for, so a line that was taken whole
-/// is never lost.
+/// of keys that still count; None where no key is left of them, and from then on. It takes no memory of its own, and a call that fails
+/// takes no key, so a line that was taken whole is never lost.
+///
+/// Key and Memory: as from `read_piece`. A part of the line may have been taken.
 pub(crate) fn take_line<C: Console>(
     console: &mut C,
     buffer: &mut [u8],

@@ -129,10 +129,10 @@ pub(crate) fn answer_next<M: Machine>(
     ensures handed_on { IfOk result (λ next. IfSome next (λ over. M.handed_on machine.new)) }
     ensures grown { Grown (M.tape machine.old) (M.tape machine.new) }
 {
-    let Some(len) = take_line(machine, buffer, left)? else {
+    let Some(kept) = take_line(machine, buffer, left)? else {
         return Ok(None);
     };
-    let text = &buffer[..len];
+    let text = &buffer[..kept];
     let next = answer_line(alloc, machine, session, text)?;
     Ok(Some(next))
 }

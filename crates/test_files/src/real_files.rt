@@ -292,6 +292,20 @@ fn the_length_is_asked_once_between_two_flushes(rt: HostRuntime) -> Result<(), F
     machine.flush()?;
     let sector_30 = [end, FileCall::WriteAt(15_960, 532)];
     assert!(rt; log.take_file_calls(alloc)?.as_slice() == sector_30.as_slice());
+    // so it is after a read call that is short: sector 0 was handed on by the length that was answered then
+    for at in [0u16, 2] {
+        assert!(rt; at < machine.shape().pages());
+        machine.run(at, Plan::WRITE_ALL, &mut NUMBERED)?;
+    }
+    file.set_len(12_768)?;
+    assert!(rt; 40 < machine.shape().pages());
+    assert!(rt; machine.run(40, Plan::READ, &mut NUMBERED) == Err(DiskError::Failed));
+    drop(log.take_file_calls(alloc)?);
+    assert!(rt; 4 < machine.shape().pages());
+    machine.run(4, Plan::WRITE_ALL, &mut NUMBERED)?;
+    machine.flush()?;
+    let sector_4 = [end, FileCall::WriteAt(2_128, 532)];
+    assert!(rt; log.take_file_calls(alloc)?.as_slice() == sector_4.as_slice());
     fs::remove_file(&rt, "asked")?;
     Ok(())
 }

@@ -14,7 +14,7 @@ returns-in_err-next-clause-next g c = λ told.
     let z = g.M.Tape.tape c.answer_line.new.machine in
     let result = c.from_residual-in_err-next.result in
     let fault = c.in_err-next.field-0.0 in
-    let text = take c.in-Some.len c.take_line.new.buffer in
-    let took = subst (λ o. TookLine x.keys y.keys c.args.left.now c.take_line.new.left c.take_line.new.buffer (Ok o)) c.in-Some.is (c.in_ok-len.ensures.line told) in
+    let text = take c.in-Some.kept c.take_line.new.buffer in
+    let took = subst (λ o. TookLine x.keys y.keys c.args.left.now c.take_line.new.left c.take_line.new.buffer (Ok o)) c.in-Some.is (c.in_ok-kept.ensures.line told) in
     let turn : TakesTurnBy y z (kept c.args.session.now) (kept c.answer_line.new.session) (cue_of text) (Err fault) = c.in_err-next.ensures.turn told in
     next_broke text c.take_line.ensures.alone c.answer_line.ensures.keys took result fault turn c.in_err-next.ensures.no_key (err_is result fault c.from_residual-in_err-next.ensures.1)
