@@ -4,7 +4,7 @@ use Rattle.std.specs.Fmt.{digit_glyph}
 use Rattle.std.specs.Char.{is_ascii_hexdigit}
 use Rattle.std.specs.List.{All, list_all}
 use Rattle.std.specs.Option.{is_some}
-use Rattle.std.proofs.lemmas.Bool.{agree_below_at, and_parts, eqb-true, false≢true}
+use Rattle.std.proofs.lemmas.Bool.{agree_below_at, eq-eqb, eqb-true, false≢true}
 use Rattle.std.proofs.lemmas.List.Elements.{All-head, All-tail}
 use Rattle.std.specs.Cmp.Lexicographic.{pointwise}
 use Rattle.std.proofs.lemmas.Bool.Decides.{nat_tests}
@@ -12,31 +12,15 @@ use Rattle.hex.specs.Hex.{encode_lower, encode_with, lower_digits}
 use Rattle.alto_words.specs.Numbers.{hex_digit, hex_byte, hex_pairs, bytes_in_hex, hex_of}
 
 -- a text other than no byte and `-` is read in pairs
-bytes_in_hex-pairs : (text : List ℕ) → (length text == 0) ≡ false → pointwise nat_eq text (45 ∷ []) ≡ false → bytes_in_hex text ≡ hex_pairs text
+pub bytes_in_hex-pairs : (text : List ℕ) → (length text == 0) ≡ false → pointwise nat_eq text (45 ∷ []) ≡ false → bytes_in_hex text ≡ hex_pairs text
 unfolding bytes_in_hex
 bytes_in_hex-pairs [] some other = absurd cc
 bytes_in_hex-pairs (a ∷ []) some other = grind (arith, nat_tests)
 bytes_in_hex-pairs (a ∷ b ∷ text) some other = refl
 
--- what is read in pairs are its bytes
-pub bytes_in_hex-ok : (text bytes : List ℕ) → (length text == 0) ≡ false → pointwise nat_eq text (45 ∷ []) ≡ false
-    → hex_pairs text ≡ Some bytes → bytes_in_hex text ≡ Some bytes
-bytes_in_hex-ok text bytes some other e = bytes_in_hex-pairs text some other ∙ e
-
 is_some-none : (o : Option (List ℕ)) → is_some o ≡ false → o ≡ None
 is_some-none None e = refl
 is_some-none (Some bytes) e = absurd (false≢true (sym e))
-
--- digits that are not in pairs are no bytes
-pub bytes_in_hex-refused : (text : List ℕ) → (length text == 0) ≡ false → pointwise nat_eq text (45 ∷ []) ≡ false
-    → is_some (hex_pairs text) ≡ false → bytes_in_hex text ≡ None
-bytes_in_hex-refused text some other no_pairs = bytes_in_hex-pairs text some other ∙ is_some-none (hex_pairs text) no_pairs
-
--- digits in pairs are bytes
-pub bytes_in_hex-accepted : (text : List ℕ) → (length text == 0) ≡ false → pointwise nat_eq text (45 ∷ []) ≡ false
-    → is_some (hex_pairs text) ≡ true → bytes_in_hex text ≢ None
-bytes_in_hex-accepted text some other pairs none =
-    false≢true (sym (ap is_some (sym (bytes_in_hex-pairs text some other) ∙ none)) ∙ pairs)
 
 is_some-hex_byte : (high low : Option ℕ) (rest : Option (List ℕ)) → is_some (hex_byte high low rest) ≡ (is_some high && (is_some low && is_some rest))
 is_some-hex_byte None low rest = refl
@@ -61,7 +45,7 @@ swap_front false b true rest = refl
 swap_front false b false rest = refl
 
 -- an even number of digits is digits in pairs, and nothing else
-pub is_some-hex_pairs : (text : List ℕ) → is_some (hex_pairs text) ≡ ((length text % 2 == 0) && list_all is_ascii_hexdigit text)
+is_some-hex_pairs : (text : List ℕ) → is_some (hex_pairs text) ≡ ((length text % 2 == 0) && list_all is_ascii_hexdigit text)
 is_some-hex_pairs [] = refl
 is_some-hex_pairs (a ∷ []) = refl
 is_some-hex_pairs (a ∷ b ∷ text) =
@@ -70,11 +54,19 @@ is_some-hex_pairs (a ∷ b ∷ text) =
     ∙ swap_front (is_ascii_hexdigit a) (is_ascii_hexdigit b) (length text % 2 == 0) (list_all is_ascii_hexdigit text)
     ∙ ap (λ even. even && (is_ascii_hexdigit a && (is_ascii_hexdigit b && list_all is_ascii_hexdigit text))) (sym (two_more (length text)))
 
--- digits in pairs are digits, and their number is even
-pub pairs_told : (text : List ℕ) → is_some (hex_pairs text) ≡ true → (list_all is_ascii_hexdigit text ≡ true) × (length text % 2 ≡ 0)
-pairs_told text some =
-    let parts = and_parts (length text % 2 == 0) (list_all is_ascii_hexdigit text) (sym (is_some-hex_pairs text) ∙ some) in
-    (parts.1, eqb-true (length text % 2) 0 parts.0)
+-- an even number of digits gives bytes
+pub pairs_given : (text : List ℕ) → length text % 2 ≡ 0 → list_all is_ascii_hexdigit text ≡ true → hex_pairs text ≢ None
+pairs_given text even all none =
+    false≢true (ap is_some (sym none) ∙ is_some-hex_pairs text ∙ (λ i. eq-eqb (length text % 2) 0 even i && all i))
+
+-- with another character they give none
+pub pairs_refused : (text : List ℕ) → length text % 2 ≡ 0 → list_all is_ascii_hexdigit text ≡ false → hex_pairs text ≡ None
+pairs_refused text even other =
+    is_some-none (hex_pairs text) (is_some-hex_pairs text ∙ (λ i. eq-eqb (length text % 2) 0 even i && other i))
+
+-- an odd number of characters gives none
+pub pairs_odd : (text : List ℕ) → (length text % 2 == 0) ≡ false → hex_pairs text ≡ None
+pairs_odd text odd = is_some-none (hex_pairs text) (is_some-hex_pairs text ∙ ap (λ even. even && list_all is_ascii_hexdigit text) odd)
 
 -- no digits at all
 pub bytes_in_hex-empty : (text : List ℕ) → (length text == 0) ≡ true → bytes_in_hex text ≡ None

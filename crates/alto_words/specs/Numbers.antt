@@ -1,5 +1,5 @@
 -- Numbers in text.
-use Rattle.std.specs.Prelude.{ℕ, ◌+◌, ◌-◌, ◌*◌, ◌/◌, ◌%◌, ◌==◌, ◌&&◌, false, cond, nat_le, nat_lt, List, [], ◌∷◌, length, Option, Some, None}
+use Rattle.std.specs.Prelude.{ℕ, ◌+◌, ◌-◌, ◌*◌, ◌/◌, ◌%◌, min, bit_and, ◌==◌, ◌&&◌, Bool, false, cond, nat_le, nat_lt, List, [], ◌∷◌, length, Option, Some, None}
 use Rattle.std.specs.List.{list_all, flat_map}
 use Rattle.std.specs.Fmt.{digit_glyph}
 use Rattle.alto_words.specs.Names.{is_digit, decimal_value}
@@ -29,9 +29,25 @@ hex_pairs [] = Some []
 hex_pairs (a ∷ []) = None
 hex_pairs (a ∷ b ∷ text) = hex_byte (hex_digit a) (hex_digit b) (hex_pairs text)
 
--- the low four bits, and 9 more from 64 on: of a hexadecimal digit that is its value
+-- bytes, where they are given
+abbrev pub bytes_if : Bool → List ℕ → Option (List ℕ)
+bytes_if given bytes = cond given (Some bytes) None
+
+-- the distance from `0` modulo 256, but 16 for the six bytes after `9`: of a decimal digit its value, of each other byte 16 or more
+abbrev pub decimal_digit_value : ℕ → ℕ
+decimal_digit_value c = ((c + (256 - 58)) % 256 - 6 + 16) % 256
+
+-- 10, and the distance from `A` modulo 256 without bit 5, 255 at most: of a letter up to `F` its value, of each other byte 16 or more
+abbrev pub letter_digit_value : ℕ → ℕ
+letter_digit_value c = min ((bit_and c 223 + (256 - 65)) % 256 + 10) 255
+
+-- of a hexadecimal digit its value, of each other byte 16 or more
 abbrev pub digit_value : ℕ → ℕ
-digit_value c = c % 16 + cond (nat_le 64 c) 9 0
+digit_value c = min (decimal_digit_value c) (letter_digit_value c)
+
+-- a value that a hexadecimal digit has
+abbrev pub is_digit_value : ℕ → Bool
+is_digit_value value = nat_lt value 16
 
 -- `-` is no bytes; otherwise an even number, above 0, of digits
 unfoldable pub bytes_in_hex : List ℕ → Option (List ℕ)

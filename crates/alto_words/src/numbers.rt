@@ -1,14 +1,14 @@
 // Numbers and bytes in text: decimal digits, and hexadecimal digits in pairs.
-ghost use Rattle.std.specs.Prelude.{◌≡◌, ◌++◌, ◌+◌, ◌*◌, ◌%◌, ◌<◌, ◌≤◌, length, take, map, true, false, Some, None, IfOk, OnOk, OnErr, is_some, decimal};
+ghost use Rattle.std.specs.Prelude.{◌≡◌, ◌++◌, ◌+◌, ◌*◌, ◌%◌, ◌<◌, ◌≤◌, length, take, map, true, false, Some, None, IfOk, OnOk, OnErr, decimal};
 ghost use Rattle.std.specs.Char.{is_ascii_hexdigit};
 ghost use Rattle.std.specs.Fmt.{digit_glyph};
 ghost use Rattle.std.specs.List.{list_all};
 ghost use Rattle.std.specs.Simd.Lanes.{Each1, chunk};
-ghost use Rattle.alto_words.specs.Numbers.{number_in, bytes_in_hex, digit_value, hex_digit, hex_pairs, hex_of};
+ghost use Rattle.alto_words.specs.Numbers.{number_in, bytes_in_hex, bytes_if, digit_value, is_digit_value, hex_pairs, hex_of};
 
 use crate::memory::Memory;
 use itoa::Buffer;
-use std::alloc::{AllocError, Global};
+use std::alloc::Global;
 use std::simd::prelude::*;
 
 /// Why `read_hex` gives no bytes.
@@ -22,6 +22,9 @@ pub enum HexError {
 
 /// The most decimal digits that `read_number` reads: those of 2^32 - 1.
 const MAX_DIGITS: usize = 10;
+
+/// How many hexadecimal digits there are: what has a value from this on is none.
+const DIGITS: u8 = 16;
 
 /// How many bytes a vector has.
 const LANES: usize = 16;
@@ -57,104 +60,143 @@ pub fn read_hex(alloc: Global, text: &[u8]) -> Result<Vec<u8>, HexError>
     if text == b"-".as_slice() {
         return Ok(Vec::new(alloc));
     }
-    if text.is_empty() || !has_hex_pairs(text) {
+    if text.is_empty() || text.len() % 2 != 0 {
         return Err(HexError::Bad);
     }
-    match read_pairs(alloc, text) {
-        Ok(bytes) => Ok(bytes),
-        Err(_) => Err(HexError::Memory),
-    }
+    read_pairs(alloc, text)
 }
 
-/// The bytes that digits in pairs give. Its only error is that no memory was left.
-fn read_pairs(alloc: Global, text: &[u8]) -> Result<Vec<u8>, AllocError>
-    requires digits { list_all is_ascii_hexdigit text.now ≡ true }
+/// The bytes that digits in pairs give, of a text that has an even number of characters. They are checked as they are read, so the
+/// text is gone over once; only where no memory is left for the bytes it is looked at alone, since Bad comes before Memory.
+fn read_pairs(alloc: Global, text: &[u8]) -> Result<Vec<u8>, HexError>
     requires even { length text.now % 2 ≡ 0 }
-    ensures { IfOk result (λ bytes. hex_pairs text.now ≡ Some bytes.items) }
+    ensures ok { IfOk result (λ bytes. hex_pairs text.now ≡ Some bytes.items) }
+    ensures bad { result ≡ Err HexError.Bad → hex_pairs text.now ≡ None }
+    ensures refused { hex_pairs text.now ≡ None → result ≡ Err HexError.Bad }
 {
-    let mut bytes = vec![in alloc; 0; text.len() / 2]?;
-    put_bytes(text, &mut bytes);
-    Ok(bytes)
-}
-
-/// Puts the bytes that digits in pairs give in the place of others. `hex::decode` branches on each digit, and this doesn't: which one
-/// comes next no processor can tell, and a guess that is wrong takes it as long as many digits.
-fn put_bytes(text: &[u8], bytes: &mut [u8])
-    requires digits { list_all is_ascii_hexdigit text.now ≡ true }
-    requires pairs { length text.now ≡ 2 * length bytes.old }
-    ensures length { length bytes.new ≡ length bytes.old }
-    ensures bytes { hex_pairs text.now ≡ Some bytes.new }
-{
-    for at in put_byte_blocks(text, bytes)..bytes.len() {
-        bytes[at] = 16 * digit_value(text[2 * at]) + digit_value(text[2 * at + 1]);
+    let Ok(mut bytes) = vec![in alloc; 0; text.len() / 2] else {
+        return Err(error_without_memory(text));
+    };
+    if put_bytes(text, &mut bytes) {
+        Ok(bytes)
+    } else {
+        Err(HexError::Bad)
     }
 }
 
-/// Puts the bytes of the digits of whole blocks, and gives how many bytes that are.
-fn put_byte_blocks(text: &[u8], bytes: &mut [u8]) -> usize
-    requires digits { list_all is_ascii_hexdigit text.now ≡ true }
+/// Why a text that has an even number of characters gives no bytes where no memory is left for them.
+fn error_without_memory(text: &[u8]) -> HexError
+    requires even { length text.now % 2 ≡ 0 }
+    ensures bad { result ≡ HexError.Bad → hex_pairs text.now ≡ None }
+    ensures refused { hex_pairs text.now ≡ None → result ≡ HexError.Bad }
+{
+    if has_hex_digits(text) {
+        HexError::Memory
+    } else {
+        HexError::Bad
+    }
+}
+
+/// Puts the bytes that digits in pairs give in the place of others, and tells whether all of the text is digits; where it isn't, the
+/// bytes are of no use. `hex::decode` branches on each digit, and this doesn't: which one comes next no processor can tell, and a guess
+/// that is wrong takes it as long as many digits.
+fn put_bytes(text: &[u8], bytes: &mut [u8]) -> bool
     requires pairs { length text.now ≡ 2 * length bytes.old }
-    ensures within { result ≤ length bytes.old }
     ensures length { length bytes.new ≡ length bytes.old }
-    ensures bytes { hex_pairs (take (2 * result) text.now) ≡ Some (take result bytes.new) }
+    ensures bytes { hex_pairs text.now ≡ bytes_if result bytes.new }
+{
+    let (whole, mut all) = put_byte_blocks(text, bytes);
+    for at in whole..bytes.len() {
+        let high = digit_value(text[2 * at]);
+        let low = digit_value(text[2 * at + 1]);
+        bytes[at] = high.wrapping_mul(16).wrapping_add(low);
+        all &= (high < DIGITS) & (low < DIGITS);
+    }
+    all
+}
+
+/// Puts the bytes of the digits of whole blocks; gives how many bytes that are, and whether all of their characters are digits. This is
+/// judged once, after the last block, by the greatest value that came in each lane.
+fn put_byte_blocks(text: &[u8], bytes: &mut [u8]) -> (usize, bool)
+    requires pairs { length text.now ≡ 2 * length bytes.old }
+    ensures within { result.0 ≤ length bytes.old }
+    ensures length { length bytes.new ≡ length bytes.old }
+    ensures bytes { hex_pairs (take (2 * result.0) text.now) ≡ bytes_if result.1 (take result.0 bytes.new) }
 {
     let mut at = 0;
+    let mut greatest = u8x16::splat(0);
     while bytes.len() - at >= LANES {
-        put_byte_block(text, at, bytes);
+        greatest = put_byte_block(text, at, greatest, bytes);
         at += LANES;
     }
-    at
+    (at, are_values_of_digits(greatest))
 }
 
-/// Puts the block of bytes from `at` on, after the bytes of the digits before.
+/// Puts the block of bytes from `at` on, after the bytes of the digits before, whose greatest values are given; gives the greatest values
+/// with this block's.
 #[inline(always)]
-fn put_byte_block(text: &[u8], at: usize, bytes: &mut [u8])
-    requires digits { list_all is_ascii_hexdigit text.now ≡ true }
+fn put_byte_block(text: &[u8], at: usize, greatest: u8x16, bytes: &mut [u8]) -> u8x16
     requires pairs { length text.now ≡ 2 * length bytes.old }
     requires within { at + 16 ≤ length bytes.old }
-    requires before { hex_pairs (take (2 * at) text.now) ≡ Some (take at bytes.old) }
+    requires before { hex_pairs (take (2 * at) text.now) ≡ bytes_if (list_all is_digit_value greatest) (take at bytes.old) }
+    ensures lanes { length result ≡ 16 }
     ensures length { length bytes.new ≡ length bytes.old }
-    ensures bytes { hex_pairs (take (2 * (at + 16)) text.now) ≡ Some (take (at + 16) bytes.new) }
+    ensures bytes { hex_pairs (take (2 * (at + 16)) text.now) ≡ bytes_if (list_all is_digit_value result) (take (at + 16) bytes.new) }
 {
     let front = u8x16::from_slice(&text[2 * at..]);
     let back = u8x16::from_slice(&text[2 * at + LANES..]);
-    bytes_of_digits(front, back).copy_to_slice(&mut bytes[at..]);
+    let (block, values) = bytes_of_digits(front, back);
+    block.copy_to_slice(&mut bytes[at..]);
+    greatest.simd_max(values)
 }
 
-/// The bytes of a block of digits in pairs, which is given as its first half and its second.
+/// The bytes of a block of digits in pairs, which is given as its first half and its second, and the greater value of each pair.
 #[inline(always)]
-fn bytes_of_digits(front: u8x16, back: u8x16) -> u8x16
-    requires { list_all is_ascii_hexdigit (front ++ back) ≡ true }
-    ensures length { length result ≡ 16 }
-    ensures bytes { hex_pairs (front ++ back) ≡ Some result }
+fn bytes_of_digits(front: u8x16, back: u8x16) -> (u8x16, u8x16)
+    ensures length { length result.0 ≡ 16 }
+    ensures lanes { length result.1 ≡ 16 }
+    ensures bytes { hex_pairs (front ++ back) ≡ bytes_if (list_all is_digit_value result.1) result.0 }
 {
-    let (high, low) = front.deinterleave(back);
-    (values_of_digits(high) << 4) | values_of_digits(low)
+    let (front, back) = front.deinterleave(back);
+    let high = values_of_digits(front);
+    let low = values_of_digits(back);
+    ((high << 4) | low, high.simd_max(low))
 }
 
-/// The values of hexadecimal digits, as `digit_value` gives them.
+/// The values of hexadecimal digits, and 16 or more for other bytes, as `digit_value` gives them.
 #[inline(always)]
 fn values_of_digits(digits: u8x16) -> u8x16
     ensures { result ≡ map digit_value digits }
 {
-    let is_letter = digits.simd_ge(u8x16::splat(64));
-    (digits & u8x16::splat(15)) + is_letter.select(u8x16::splat(9), u8x16::splat(0))
+    let decimal = (digits - u8x16::splat(b'9' + 1)).saturating_sub(u8x16::splat(6))
+        + u8x16::splat(16);
+    let letter = ((digits & u8x16::splat(0xDF)) - u8x16::splat(b'A')).saturating_add(u8x16::splat(
+        10,
+    ));
+    decimal.simd_min(letter)
 }
 
-/// The value of a hexadecimal digit: its low four bits are that, or 9 less where it is a letter, which bit 6 tells.
+/// Whether all of these values are of digits.
+fn are_values_of_digits(values: u8x16) -> bool
+    ensures { result ≡ list_all is_digit_value values }
+{
+    values.simd_ge(u8x16::splat(DIGITS)).to_bitmask() == 0
+}
+
+/// The value of a hexadecimal digit, and 16 or more for another byte.
+///
+/// Less 58, the digits `0` to `9` are 246 to 255, and no other byte is: less 6 more, but not less than 0, they are 240 to 249, and the
+/// others at most 239. So 16 more make the digits' values of the first, and 16 or more of the others. Letters have bit 5 in the lower case
+/// alone, and without it those from `A` on get 10 and their distance from it, which isn't let past 255.
 fn digit_value(digit: u8) -> u8
-    requires { is_ascii_hexdigit digit ≡ true }
-    ensures value { hex_digit digit ≡ Some result }
-    ensures most { result ≤ 15 }
+    ensures { result ≡ digit_value digit }
 {
-    digit % 16 + 9 * (digit / 64)
-}
-
-/// Whether a text is hexadecimal digits in pairs, or empty.
-fn has_hex_pairs(text: &[u8]) -> bool
-    ensures { result ≡ is_some (hex_pairs text.now) }
-{
-    text.len() % 2 == 0 && has_hex_digits(text)
+    let decimal = digit
+        .wrapping_sub(b'9' + 1)
+        .saturating_sub(6)
+        .wrapping_add(16);
+    let letter = (digit & 0xDF).wrapping_sub(b'A').saturating_add(10);
+    if decimal < letter { decimal } else { letter }
 }
 
 /// Whether a text is hexadecimal digits alone. It goes over all of it, since a loop that ends at the first other byte compares one byte at

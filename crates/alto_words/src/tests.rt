@@ -369,11 +369,25 @@ fn bytes_read_in_either_case(rt: HostRuntime) -> Result<(), Fail> {
 
 #[test]
 fn other_characters_refused_anywhere(rt: HostRuntime) -> Result<(), Fail> {
-    for at in [0, 31, 32, 40, 64, 69] {
+    for at in 0..70 {
         for other in [b'/', b':', b'@', b'G', b'`', b'g', 0xB0, 0xE1] {
             let mut text = vec![in rt.alloc(); b'a'; 70]?;
             *text.get_mut(at).ok_or("so many digits")? = other;
             assert!(rt; matches!(read_hex(rt.alloc(), &text), Err(HexError::Bad)));
+        }
+    }
+    Ok(())
+}
+
+#[test]
+fn each_byte_read_or_refused(rt: HostRuntime) -> Result<(), Fail> {
+    let digits = b"0123456789abcdefABCDEF".as_slice();
+    for byte in all_bytes() {
+        for at in [2, 41] {
+            let mut text = vec![in rt.alloc(); b'0'; 42]?;
+            *text.get_mut(at).ok_or("so many digits")? = byte;
+            let is_bad = matches!(read_hex(rt.alloc(), &text), Err(HexError::Bad));
+            assert_eq!(rt; is_bad, !digits.contains(&byte));
         }
     }
     Ok(())

@@ -1,11 +1,11 @@
 -- Bytes in hex that end a line: no space is among them, so all of a text is read as they are, or none of its words.
-use Rattle.std.proofs.Common.{◌≡◌, ◌⊎◌, inl, inr, ℕ, Bool, true, false, cond, not, ◌&&◌, ◌==◌, List, [], ◌∷◌, Option, Some, None, refl, sym, ◌∙◌, ap}
+use Rattle.std.proofs.Common.{◌≡◌, ◌⊎◌, inl, inr, ℕ, ◌%◌, Bool, true, false, cond, not, ◌&&◌, ◌==◌, List, [], ◌∷◌, length, Option, Some, None, refl, sym, ◌∙◌, ap}
 use Rattle.std.specs.Char.{is_ascii_hexdigit}
 use Rattle.std.specs.List.{list_all}
 use Rattle.std.specs.Option.{is_some}
-use Rattle.std.proofs.lemmas.Bool.{and_parts, and_from, eqb-true}
-use Rattle.alto_words.specs.Numbers.{bytes_in_hex}
-use Rattle.alto_words.proofs.Hex.{pairs_told}
+use Rattle.std.proofs.lemmas.Bool.{and_parts, and_from, eqb-true, false≢true}
+use Rattle.alto_words.specs.Numbers.{bytes_in_hex, hex_pairs}
+use Rattle.alto_words.proofs.Hex.{pairs_odd, pairs_refused}
 use Rattle.exec_words.specs.declared.line.Line.{Line}
 use Rattle.exec_words.specs.Grammar.{is_byte, before, after, words_in, at_most, bytes_up_to, both, two, three}
 use Rattle.exec_words.proofs.Cutting.{words_after, words_cut}
@@ -24,6 +24,15 @@ digits_lack (c ∷ text) all =
     let parts = and_parts (is_ascii_hexdigit c) (list_all is_ascii_hexdigit text) all in
     and_from (not (is_byte 32 c)) (list_all (λ d. not (is_byte 32 d)) text) (no_space c parts.0) (digits_lack text parts.1)
 
+-- what is read in pairs is digits alone
+pairs_are_digits : (text : List ℕ) → is_some (hex_pairs text) ≡ true → list_all is_ascii_hexdigit text ≡ true
+pairs_are_digits text some = by (length text % 2 == 0) (list_all is_ascii_hexdigit text) refl refl
+  where
+    by : (even all : Bool) → (length text % 2 == 0) ≡ even → list_all is_ascii_hexdigit text ≡ all → all ≡ true
+    by even true is e = refl
+    by true false is e = absurd (false≢true (ap is_some (sym (pairs_refused text (eqb-true (length text % 2) 0 is) e)) ∙ some))
+    by false false is e = absurd (false≢true (ap is_some (sym (pairs_odd text is)) ∙ some))
+
 hex_lacks : (text bytes : List ℕ) → bytes_in_hex text ≡ Some bytes → Lacks 32 text
 unfolding bytes_in_hex
 hex_lacks [] bytes e = refl
@@ -32,7 +41,7 @@ hex_lacks (a ∷ []) bytes e = by (a == 45) refl e
     by : (b : Bool) → (a == 45) ≡ b → cond b (Some []) None ≡ Some bytes → Lacks 32 (a ∷ [])
     by true is f = ap (λ c. not (is_byte 32 c) && true) (eqb-true a 45 is)
     by false is f = let g : None ≡ Some bytes = f in cc
-hex_lacks (a ∷ b ∷ text) bytes e = digits_lack (a ∷ b ∷ text) (pairs_told (a ∷ b ∷ text) (ap is_some e)).0
+hex_lacks (a ∷ b ∷ text) bytes e = digits_lack (a ∷ b ∷ text) (pairs_are_digits (a ∷ b ∷ text) (ap is_some e))
 
 spaced : (text rest : List ℕ) → after 32 text ≡ Some rest → bytes_in_hex text ≡ None
 spaced text rest cut = by (bytes_in_hex text) refl

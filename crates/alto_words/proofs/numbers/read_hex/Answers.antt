@@ -1,7 +1,8 @@
-use Rattle.std.proofs.Common.{sym, ◌∙◌, ap, Some}
-use Rattle.alto_words.proofs.Hex.{bytes_in_hex-empty, bytes_in_hex-dash, bytes_in_hex-ok, bytes_in_hex-refused, bytes_in_hex-accepted, pairs_told}
+use Rattle.std.proofs.Common.{◌≡◌, ℕ, List, Option, Some, IfOk, sym, subst, ◌∙◌, ap, arith}
+use Rattle.std.proofs.lemmas.Bool.Decides.{nat_tests}
+use Rattle.alto_words.proofs.Hex.{bytes_in_hex-empty, bytes_in_hex-dash, bytes_in_hex-pairs, pairs_odd}
 use Rattle.alto_words.proofs.numbers.read_hex.Goals as goal
-use Rattle.alto_words.proofs.numbers.read_hex.Goals.{then-is_empty-via-then-is_empty, then-is_empty-via-else-is_empty+then-not-has_hex_pairs}
+use Rattle.alto_words.proofs.numbers.read_hex.Goals.{then-is_empty-via-then-is_empty, then-is_empty-via-else-is_empty+then-text-ne0}
 
 pub returns-then-eq-clause-ok : goal.returns-then-eq-clause-ok
 returns-then-eq-clause-ok c =
@@ -16,29 +17,26 @@ returns-then-eq-clause-refused c =
 pub returns-then-is_empty-clause-bad : goal.returns-then-is_empty-clause-bad
 returns-then-is_empty-clause-bad c =
     let other = rw c.as_slice.ensures at c.if-eq.ensures in
+    let text = c.args.text.now in
     λ _. elim c.then-is_empty.branch [
-      | then-is_empty-via-then-is_empty w ↦ bytes_in_hex-empty c.args.text.now (sym w.if-is_empty.ensures)
-      | then-is_empty-via-else-is_empty+then-not-has_hex_pairs w ↦
-          bytes_in_hex-refused c.args.text.now (sym w.if-is_empty.ensures) (sym other) (sym w.if-not-has_hex_pairs.ensures)
+      | then-is_empty-via-then-is_empty w ↦ bytes_in_hex-empty text (sym w.if-is_empty.ensures)
+      | then-is_empty-via-else-is_empty+then-text-ne0 w ↦
+          let odd = w.if-text-ne0.true in
+          bytes_in_hex-pairs text (sym w.if-is_empty.ensures) (sym other) ∙ pairs_odd text (grind (arith, nat_tests))
     ]
 
-pub returns-in-Ok-clause-ok : goal.returns-in-Ok-clause-ok
-returns-in-Ok-clause-ok c =
+pub returns-clause-ok : goal.returns-clause-ok
+returns-clause-ok c =
     let other = rw c.as_slice.ensures at c.if-eq.ensures in
-    bytes_in_hex-ok c.args.text.now c.in-Ok.bytes.items (sym c.if-is_empty.ensures) (sym other) c.in-Ok.ensures
+    subst (λ (pairs : Option (List ℕ)). IfOk c.read_pairs.result (λ bytes. pairs ≡ Some bytes.items))
+    (sym (bytes_in_hex-pairs c.args.text.now (sym c.if-is_empty.ensures) (sym other))) c.read_pairs.ensures.ok
 
-pub returns-in-Ok-clause-refused : goal.returns-in-Ok-clause-refused
-returns-in-Ok-clause-refused c =
+pub returns-clause-bad : goal.returns-clause-bad
+returns-clause-bad c =
     let other = rw c.as_slice.ensures at c.if-eq.ensures in
-    λ none. absurd (bytes_in_hex-accepted c.args.text.now (sym c.if-is_empty.ensures) (sym other) (sym c.if-not-has_hex_pairs.ensures) none)
+    λ bad. bytes_in_hex-pairs c.args.text.now (sym c.if-is_empty.ensures) (sym other) ∙ c.read_pairs.ensures.bad bad
 
-pub returns-in-Err-clause-refused : goal.returns-in-Err-clause-refused
-returns-in-Err-clause-refused c =
+pub returns-clause-refused : goal.returns-clause-refused
+returns-clause-refused c =
     let other = rw c.as_slice.ensures at c.if-eq.ensures in
-    λ none. absurd (bytes_in_hex-accepted c.args.text.now (sym c.if-is_empty.ensures) (sym other) (sym c.if-not-has_hex_pairs.ensures) none)
-
-pub read_pairs-requires-clause-digits : goal.read_pairs-requires-clause-digits
-read_pairs-requires-clause-digits c = (pairs_told c.args.text.now (sym c.if-not-has_hex_pairs.ensures)).0
-
-pub read_pairs-requires-clause-even : goal.read_pairs-requires-clause-even
-read_pairs-requires-clause-even c = (pairs_told c.args.text.now (sym c.if-not-has_hex_pairs.ensures)).1
+    λ none. c.read_pairs.ensures.refused (sym (bytes_in_hex-pairs c.args.text.now (sym c.if-is_empty.ensures) (sym other)) ∙ none)
