@@ -40,6 +40,14 @@ fn page_number_of(offset: u32) -> Option<u16>
     }
 }
 
+/// Puts all bytes of a page in the place of those of `out` from `done` on, where they are made at once.
+fn put_page(value: &[u16; 256], out: &mut [u8], done: usize)
+    requires { done + 512 ≤ length out.old }
+    ensures put { out.new ≡ put_at done (bytes_of value.now) out.old }
+{
+    words_into_bytes(value, &mut out[done..done + PAGE_BYTES as usize]);
+}
+
 /// Puts bytes of a page that count, from one of them on, in the place of those of `out` from `done` on: as many as there are and fit.
 /// Answers how many.
 fn put_part(value: &[u16; 256], from: usize, bytes: usize, out: &mut [u8], done: usize) -> usize
@@ -49,6 +57,10 @@ fn put_part(value: &[u16; 256], from: usize, bytes: usize, out: &mut [u8], done:
     ensures count { result ≡ min (bytes - from) (length out.old - done) }
     ensures put { out.new ≡ put_at done (take result (drop from (bytes_of value.now))) out.old }
 {
+    if from == 0 && bytes == PAGE_BYTES as usize && out.len() - done >= PAGE_BYTES as usize {
+        put_page(value, out, done);
+        return PAGE_BYTES as usize;
+    }
     let mut page = [0; PAGE_BYTES as usize];
     words_into_bytes(value, &mut page);
     let count = (bytes - from).min(out.len() - done);
