@@ -31,17 +31,20 @@ def state_of(plain):
 
 
 def states(plain, lines, replies, shown):
-    """The states that a pack may have when so much was shown: after each prefix of the operations of the line that isn't acknowledged."""
+    """The states that a pack may have when so much was shown: after each prefix of the operations of the lines that aren't acknowledged.
+    All lines are typed ahead, so replies may be held back while further ones are obeyed."""
     plain, acknowledged = copy.deepcopy(plain), acknowledged_lines(replies, shown)
     for line in lines[:acknowledged]:
         plain.obey(line)
     found = [state_of(plain)]
-    if acknowledged < len(replies):
-        for operation in plain.answer(lines[acknowledged])[1]:
+    for number in range(acknowledged, len(replies)):
+        for operation in plain.answer(lines[number])[1]:
             operation()
             found.append(state_of(plain))
-    # a reply is shown after its line's operations
-    return found[-1:] if shown != b"".join(replies[:acknowledged]) else found
+        # a reply is shown after its line's operations
+        if number == acknowledged and shown != b"".join(replies[:acknowledged]):
+            found = found[-1:]
+    return found
 
 
 def acknowledged_lines(replies, shown):
@@ -94,7 +97,7 @@ class Session(Work):
         assert self.ended == (0, b"".join(replies), b""), sessions.difference(lines, replies, self.ended[1]) or self.ended
 
     def check(self, shown):
-        """What a session left that stopped after it showed this: how many operations of the line that isn't acknowledged, in a word."""
+        """What a session left that stopped after it showed this: how many operations of lines that aren't acknowledged, in a word."""
         assert b"".join(self.replies).startswith(shown), f"shown is {shown!r}"
         wanted = states(self.plain, self.lines, self.replies, shown)
         code, listed, error = self.pack.run(["show"])

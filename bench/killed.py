@@ -123,10 +123,13 @@ class KilledSession(Session):
     """A session that is killed."""
 
     def otherwise(self, acknowledged, told):
-        """No prefix, unless the next line tore a record. DiskDescriptor, which a session's end writes, lies over no multiple of 4,096."""
+        """No prefix, unless a line after the acknowledged ones tore a record. DiskDescriptor, which a session's end writes, lies over no
+        multiple of 4,096."""
         left = self.read()
-        assert is_torn(self.image(acknowledged), self.image(acknowledged + 1), left), f"killed after {acknowledged} lines: {told}"
-        return "torn"
+        for number in range(acknowledged, len(self.lines)):
+            if is_torn(self.image(number), self.image(number + 1), left):
+                return "torn"
+        raise AssertionError(f"killed after {acknowledged} lines: {told}")
 
     def image(self, count):
         """The files after a session of so many lines."""

@@ -7,6 +7,7 @@ import os
 import pathlib
 import re
 import resource
+import select
 import shutil
 import signal
 import socket
@@ -262,6 +263,8 @@ def check_sessions(program):
     Run(program, boot, {"pack": pack}, redirect="</").gives(KEYS_FAILED, left={"pack": pack})
     for redirect in [">&-", ">/dev/full"]:
         Run(program, boot, {"pack": pack}, PATCH, redirect).gives(DISPLAY_FAILED, left={"pack": stopped})
+        # a `quit` that is typed ahead doesn't close the pack either
+        Run(program, boot, {"pack": pack}, PATCH + b"quit\n", redirect).gives(DISPLAY_FAILED, left={"pack": stopped})
     Run(program, boot, {"pack": pack}, PATCHES, "2>&-").gives(DONE, REPLIES, left={"pack": patched})
     Run(program, boot, {"pack": pack}, redirect="<&- >&- 2>&-").gives(KEYS_FAILED, left={"pack": pack})
     made = {"new": bytes(SMALL)}
@@ -563,9 +566,9 @@ def check_size_limit(program):
     Run(program, new, before=limited(SMALL)).gives(DONE, NO_FILES, left={"new": bytes(SMALL)})
     Run(program, ["new", "boot"], short).gives(NO_SESSION, err=b"bad length %d\n" % size, left=short)
     Run(program, new, short).gives(NO_SESSION, err=b"no pack\n", left=short)
-    # a line's write, which makes no file longer, is stopped too, and its reply isn't shown
+    # a line's write, which makes no file longer, is stopped too: neither its reply is shown nor that to the line ahead, which is held back
     pack = {"pack": abcde()}
-    Run(program, ["pack", "boot"], pack, PATCHES, before=limited(1_000)).gives(-signal.SIGXFSZ, b"done\n", left=pack)
+    Run(program, ["pack", "boot"], pack, PATCHES, before=limited(1_000)).gives(-signal.SIGXFSZ, left=pack)
     # one within a record, whose value begins at byte 3,212: the first 372 of its bytes are new
     line, old = b"patch #3 0 " + b"42" * packs.PAGE + b"\n", {"pack": abcde(b"A" * 600)}
     torn = {"pack": abcde(b"B" * 372 + b"A" * 228, packs.OPEN)}
@@ -655,18 +658,19 @@ def check_shrinking_second(program):
 
 
 def check_whole_writes(program):
-    """A reply, a listing and each other text is shown by one write call: a socket of packets keeps them apart."""
+    """A listing and each other text is shown by one write call, and so are all replies to lines that are typed ahead: a socket of packets
+    keeps calls apart."""
     second = ["--second", "second"]
     rows = [
-        ([], ["boot"], [b"done\n", b"done\n", b"beyond length 5\n"]),
-        ([], ["show"], [LISTING]),
-        ([], ["format", "1"], [FORMATTED]),
-        ([], ["prepare", "1"], [b"usage\n"]),
-        (second, ["prepare", "1"], [PREPARED]),
-        ([], ["scavenge"], [SCAVENGED]),
-        ([], ["halt"], [b"usage\n"]),
+        ([], ["boot"], REPLIES),
+        ([], ["show"], LISTING),
+        ([], ["format", "1"], FORMATTED),
+        ([], ["prepare", "1"], b"usage\n"),
+        (second, ["prepare", "1"], PREPARED),
+        ([], ["scavenge"], SCAVENGED),
+        ([], ["halt"], b"usage\n"),
     ]
-    for options, words, texts in rows:
+    for options, words, text in rows:
         with tempfile.TemporaryDirectory() as folder:
             for name in ("pack", "second"):
                 (pathlib.Path(folder) / name).write_bytes(abcde())
@@ -676,8 +680,35 @@ def check_whole_writes(program):
                 subprocess.run(command, cwd=folder, input=PATCHES, stdout=writer, timeout=SECONDS)
                 writer.close()
                 shown = list(iter(lambda: reader.recv(MIB), b""))
-            if shown != texts:
-                failures.append(f"{[*options, *words]}: the write calls show {shown}, and not {texts}")
+            if shown != [text]:
+                failures.append(f"{[*options, *words]}: the write calls show {shown}, and not {[text]}")
+
+
+def check_replies_before_keys(program):
+    """A reply is shown before keys are waited for: those of the next line, and the rest of one of which a part was typed ahead. The text of
+    `type`, which is longer than what is held back, comes after the replies ahead of it."""
+    lines, replies = PATCHES.splitlines(keepends=True), REPLIES.splitlines(keepends=True)
+    with tempfile.TemporaryDirectory() as folder:
+        (pathlib.Path(folder) / "pack").write_bytes(abcde())
+        streams = {"stdin": subprocess.PIPE, "stdout": subprocess.PIPE}
+        with subprocess.Popen([program, "pack", "boot"], cwd=folder, bufsize=0, **streams) as process:
+            for typed, reply in [(lines[0] + lines[1][:3], replies[0]), (lines[1][3:], replies[1]), (lines[2], replies[2])]:
+                process.stdin.write(typed)
+                ready, _, _ = select.select([process.stdout], [], [], SECONDS)
+                shown = os.read(process.stdout.fileno(), MIB) if ready else None
+                if shown != reply:
+                    failures.append(f"{typed} typed alone: {shown} is shown, and not {reply}")
+                    process.kill()
+                    break
+    long = b"".join(b"append A " + b"41" * 2000 + b"\n" for _ in range(2))
+    typed = b"type A\n" + long + b"type A\ntype A\n"
+    bytes_of = b"ABCDE" + b"A" * 4000
+    first = b"4142434445\n5 bytes\n"
+    hex_lines = b"".join(bytes_of[at : at + 32].hex().encode() + b"\n" for at in range(0, len(bytes_of), 32))
+    shown = first + b"length 2005\nlength 4005\n" + (hex_lines + b"4005 bytes\n") * 2
+    run = Run(program, ["pack", "boot"], {"pack": abcde()}, typed)
+    # the appends date the file, so what is left isn't compared
+    run.gives(DONE, shown, left=run.left)
 
 
 def check_closed_pipe(program):
@@ -716,6 +747,7 @@ CHECKS = [
     check_shrinking_file,
     check_shrinking_second,
     check_whole_writes,
+    check_replies_before_keys,
     check_closed_pipe,
 ]
 

@@ -2,6 +2,7 @@ mod Asking
 pub mod Looking
 pub mod Rows
 pub mod Words
+mod Displayed
 mod Flushed
 mod Formatted
 mod Scavenged

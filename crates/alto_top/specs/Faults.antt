@@ -1,7 +1,7 @@
 -- Faults by their causes, and how what the program was asked for ends.
-use Rattle.std.specs.Prelude.{Result}
+use Rattle.std.specs.Prelude.{◌≡◌, ◌⊎◌, Result}
 use Rattle.disk_records.specs.Causes.{IsCause, HasCause, of_disk}
-use Rattle.disk_records.specs.Tapes.{Taped}
+use Rattle.disk_records.specs.Tapes.{Rose, Taped}
 use Rattle.disk_descriptor.specs.declared.errors.FormatError.{FormatError}
 use Rattle.disk_descriptor.specs.declared.errors.FormatError.TheVariants as formatting
 use Rattle.pack_reading.specs.declared.error.ReadingError.{ReadingError}
@@ -10,6 +10,7 @@ use Rattle.session_boot.specs.Faults.{HasStatusCause, UnlessStopped, cause_of_fa
 use Rattle.session_boot.specs.declared.status.Fault.{Fault}
 use Rattle.session_boot.specs.declared.status.Fault.TheVariants.{Disk, Memory}
 use Rattle.session_boot.specs.declared.status.Status.{Status}
+use Rattle.session_boot.specs.declared.status.Status.TheVariants.{DisplayFault}
 
 -- a call that is given a disk and no console: the disk alone may fail
 abbrev pub DiskFaultCause : Taped → Taped → Fault → Type 0
@@ -26,8 +27,12 @@ abbrev pub fault_of_format : FormatError → Fault
 fault_of_format formatting.DiskFault = Disk
 fault_of_format formatting.Memory = Memory
 
+-- what is answered once the display has all that was shown: the answer meant, or where that failed a fault of the display
+abbrev pub IsSameOrUnseen : Taped → Taped → Status → Status → Type 0
+IsSameOrUnseen old new meant answer = (answer ≡ meant) ⊎ ((answer ≡ DisplayFault) × Rose old.show_faults new.show_faults)
+
 -- How what was asked for ends: a fault is answered only where the count of its device rose, or stands at its end; and unless a fault or out
--- of memory is answered, this holds of the machine as it is left: no record write is held back.
+-- of memory is answered, this holds of the machine as it is left: nothing is held back.
 pub record Concludes (none_held : Type 0) (old new : Taped) (answer : Status) : Type 0 where
   pub cause : HasStatusCause old new answer
   pub handed_on : UnlessStopped answer none_held

@@ -1,10 +1,11 @@
-// What the disk holds back of what was written.
-ghost use Rattle.alto_top.specs.Faults.{HasDiskCause};
-ghost use Rattle.disk_records.specs.Tapes.{DiskAlone};
+// What the disk holds back of what was written, and the display of what was shown.
+ghost use Rattle.alto_top.specs.Faults.{HasDiskCause, IsSameOrUnseen};
+ghost use Rattle.disk_records.specs.Tapes.{DiskAlone, ShowAlone};
+ghost use Rattle.session_boot.specs.Faults.{UnlessStopped};
 ghost use Rattle.std.specs.Prelude.{IsOk, IsTrue, OnOk, ◌≡◌};
 
-use disk_records::Disk;
-use session_boot::Fault;
+use disk_records::{Console, Disk};
+use session_boot::{Fault, Status, flush_display};
 
 /// Has the disk hand on the record writes that it holds back, so that what is shown next stands on the pack. On a disk that is modelled
 /// nothing is held back.
@@ -19,5 +20,28 @@ pub(crate) fn flush_disk<D: Disk>(disk: &mut D) -> Result<(), Fault>
     match disk.flush() {
         Ok(()) => Ok(()),
         Err(_) => Err(Fault::Disk),
+    }
+}
+
+/// The answer, once the display has all that was shown: `DisplayFault` where it failed, unless a fault or out of memory was answered before.
+pub(crate) fn after_display<C: Console>(console: &mut C, answer: Status) -> Status
+    ensures told { IsTrue C.told → (result ≡ answer) × (C.tape console.new ≡ C.tape console.old) }
+    ensures cause { IsSameOrUnseen (C.tape console.old) (C.tape console.new) answer result }
+    ensures displayed { UnlessStopped result (C.displayed console.new) }
+    ensures handed_on { C.handed_on console.old → C.handed_on console.new }
+    ensures alone { ShowAlone (C.tape console.old) (C.tape console.new) }
+{
+    match flush_display(console) {
+        Ok(()) => answer,
+        Err(_) => match answer {
+            Status::DiskFault => Status::DiskFault,
+            Status::KeyFault => Status::KeyFault,
+            Status::DisplayFault => Status::DisplayFault,
+            Status::Memory => Status::Memory,
+            Status::Done => Status::DisplayFault,
+            Status::Usage => Status::DisplayFault,
+            Status::NeedsScavenge => Status::DisplayFault,
+            Status::CannotScavenge => Status::DisplayFault,
+        },
     }
 }

@@ -8,6 +8,7 @@ ghost use Rattle.alto_top.specs.Faults.{Concludes};
 ghost use Rattle.alto_top.specs.Showing.{KeepsKeys};
 ghost use Rattle.alto_top.specs.Top.{AnswersPrepare, AnswersTo, AnswersUsage, AsksFor, BootedAlone, DoesAsAsked, PreparesOrUsage, ShowsUsage, Touches, pack_number};
 
+use crate::flushing::after_display;
 use crate::formatting::format_pack;
 use crate::preparing::prepare_pack;
 use crate::scavenging::scavenge_pack;
@@ -129,19 +130,8 @@ fn boot_uncounted<M: Machine>(alloc: Global, moment: u32, machine: &mut M) -> St
     boot(alloc, moment, &mut tally, machine)
 }
 
-/// Does what the words of a command line ask for on this machine. The words are `boot`, `show` or `scavenge` alone, or `format` or `prepare`
-/// and the pack's number, 1 to 65,535; with any others, and with `prepare` on one drive, `usage` is shown and nothing else happens. `moment`
-/// is the time now, in seconds since the start of 1901. The machine holds no record write back, as a new one; and none at the end, unless a
-/// fault or out of memory is answered.
-///
-/// Done: the session was ended, the listing was shown, the pack was scavenged or formatted, or its second drive prepared. Usage: the
-/// words are others, or `prepare` on one drive, and `usage` was shown. NeedsScavenge: of `boot` alone; the pack isn't entered, or a
-/// hint failed in the session. CannotScavenge: of `scavenge` alone; the text says why the pack can't be scavenged, and nothing was written.
-/// DiskFault and KeyFault: that device failed before what was asked for was done; a listing, a scavenge, formatting and preparing take no
-/// key. DisplayFault: the display failed, with any words. Memory: none was left. After each of them what was acknowledged stands on a pack
-/// that was sound and clean; a pack that was being scavenged shows what it showed and is to be scavenged again, one that was being formatted
-/// is to be formatted again, and a drive that was being prepared to be prepared again.
-pub fn alto<M: Machine>(alloc: Global, words: &[String], moment: u32, machine: &mut M) -> Status
+/// Does what the words of a command line ask for on this machine, as `alto` says. What was shown last may be held back.
+fn do_asked<M: Machine>(alloc: Global, words: &[String], moment: u32, machine: &mut M) -> Status
     requires handed_on { M.handed_on machine.old }
     ensures does { IsTrue M.told → DoesAsAsked (map string_bytes words.now) moment (M.tape machine.old) (M.tape machine.new) result }
     ensures answers { AnswersTo (map string_bytes words.now) (disks_of (M.tape machine.old).form) result }
@@ -156,4 +146,27 @@ pub fn alto<M: Machine>(alloc: Global, words: &[String], moment: u32, machine: &
         Asked::Prepare(number) => prepare_or_usage(alloc, number, machine),
         Asked::Nothing => show_usage(machine),
     }
+}
+
+/// Does what the words of a command line ask for on this machine. The words are `boot`, `show` or `scavenge` alone, or `format` or `prepare`
+/// and the pack's number, 1 to 65,535; with any others, and with `prepare` on one drive, `usage` is shown and nothing else happens. `moment`
+/// is the time now, in seconds since the start of 1901. The machine holds no record write back, as a new one; and neither a
+/// record write nor any byte that was shown at the end, unless a fault or out of memory is answered.
+///
+/// Done: the session was ended, the listing was shown, the pack was scavenged or formatted, or its second drive prepared. Usage: the
+/// words are others, or `prepare` on one drive, and `usage` was shown. NeedsScavenge: of `boot` alone; the pack isn't entered, or a
+/// hint failed in the session. CannotScavenge: of `scavenge` alone; the text says why the pack can't be scavenged, and nothing was written.
+/// DiskFault and KeyFault: that device failed before what was asked for was done; a listing, a scavenge, formatting and preparing take no
+/// key. DisplayFault: the display failed, with any words. Memory: none was left. After each of them what was acknowledged stands on a pack
+/// that was sound and clean; a pack that was being scavenged shows what it showed and is to be scavenged again, one that was being formatted
+/// is to be formatted again, and a drive that was being prepared to be prepared again.
+pub fn alto<M: Machine>(alloc: Global, words: &[String], moment: u32, machine: &mut M) -> Status
+    requires handed_on { M.handed_on machine.old }
+    ensures does { IsTrue M.told → DoesAsAsked (map string_bytes words.now) moment (M.tape machine.old) (M.tape machine.new) result }
+    ensures answers { AnswersTo (map string_bytes words.now) (disks_of (M.tape machine.old).form) result }
+    ensures ends { Concludes (M.handed_on machine.new × M.displayed machine.new) (M.tape machine.old) (M.tape machine.new) result }
+    ensures touches { Touches (map string_bytes words.now) (M.tape machine.old) (M.tape machine.new) }
+{
+    let answer = do_asked(alloc, words, moment, machine);
+    after_display(machine, answer)
 }

@@ -6,3 +6,4 @@ pub mod Laws
 pub mod Machines
 pub mod Records
 pub mod Starts
+pub mod Texts

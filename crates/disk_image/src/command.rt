@@ -8,6 +8,7 @@ ghost use Rattle.disk_records.specs.Checks.{is_legal, is_checked, mismatch, memo
 ghost use Rattle.disk_image.specs.Kept.{kept_at, ReadsKept, NoOtherChanges};
 ghost use Rattle.disk_image.specs.Records.{writes_after_all};
 
+use crate::codec::CYLINDER_BYTES;
 use crate::kept::KeptSectors;
 use crate::placed::{Failed, Placed};
 use crate::records::{read_cylinder, read_front, seek_to, seek_to_cylinder, write_back};
@@ -16,21 +17,22 @@ use disk_records::{Plan, Sector, first_mismatch, update_memory};
 use std::io::{Read, Seek};
 use std::os::unix::fs::FileExt;
 
-/// Reads and checks the records before the first Write, of a sector that isn't kept: those of its cylinder, which is kept from now on,
-/// else its own alone. Answers the first word that differs, if one does.
+/// Reads and checks the records before the first Write, of a sector that isn't kept: those of its cylinder, which is read into memory that
+/// is lent and kept from now on, else its own alone. Answers the first word that differs, if one does.
 pub(crate) fn read_in_file<F: Read + Seek>(
     file: &mut F,
     spot: Spot,
     plan: Plan,
     buf: &mut Sector,
     kept: &mut KeptSectors,
+    memory: &mut [u8],
 ) -> Result<Option<(u8, u16)>, Failed>
     requires legal { IsTrue (is_legal plan) }
     requires not_kept { kept_at kept.old spot.at ≡ None }
     ensures checked { IfOk result (λ found. IfSome found (λ place. IsTrue (is_checked plan place.0))) }
     ensures kept { ReadsKept spot.at plan buf.old buf.new kept.old kept.new result }
 {
-    keep_cylinder_of(file, spot, kept);
+    keep_cylinder_of(file, spot, kept, memory);
     match kept.sector(spot.at) {
         Some(disk) => Ok(compare(plan, buf, disk)),
         None => compare_in_file(file, spot, plan, buf),
@@ -52,13 +54,20 @@ fn compare_in_file<F: Read + Seek>(
     Ok(compare(plan, buf, &disk))
 }
 
-/// Keeps the cylinder of a sector. Where there is no memory for it, or it can't be read whole, all that is kept stays as it was.
-fn keep_cylinder_of<F: Read + Seek>(file: &mut F, spot: Spot, kept: &mut KeptSectors)
+/// Keeps the cylinder of a sector, which is read into memory that is lent. Where there is no memory for it, or it can't be read whole, all
+/// that is kept stays as it was.
+fn keep_cylinder_of<F: Read + Seek>(
+    file: &mut F,
+    spot: Spot,
+    kept: &mut KeptSectors,
+    memory: &mut [u8],
+)
     ensures { NoOtherChanges (spot.at / 24) kept.old kept.new }
 {
     let cylinder = spot.at / CYLINDER_SECTORS;
-    if kept.has_room(cylinder) && seek_to_cylinder(file, spot.ahead).is_ok() {
-        let _ = read_cylinder(file, cylinder, kept);
+    let is_lent = memory.len() == CYLINDER_BYTES as usize;
+    if is_lent && kept.has_room(cylinder) && seek_to_cylinder(file, spot.ahead).is_ok() {
+        let _ = read_cylinder(file, cylinder, kept, memory);
     }
 }
 

@@ -33,8 +33,16 @@
 // what is held back stays so and is tried again first, so nothing goes ahead of it, and the length is asked for again. So it is after a
 // read call that is short.
 //
-// Keys are read ahead. Those of one line that were are taken at once, and none past the line's end (`read_piece`).
-ghost use Rattle.std.specs.Prelude.{◌≡◌, ◌≢◌, ◌-◌, ◌<◌, ◌≤◌, false, [], length, take, IfOk, IfErr, OnErr};
+// Keys are read ahead. Those of one line that were are taken at once, and none past the line's end (`read_piece`). Whether the end of a
+// line is among them is known by one search after each read call that brought keys (`has_line`).
+//
+// Texts that are shown are held back, one behind the other, in memory for 4,096 bytes (texts.rt). They are handed on to the display by one
+// write call at `flush_display`, and before a text for which there is no room behind them; that text is then held. One of more than 4,096
+// bytes is written at once, by a call of its own, after those that were held. Where no memory was left to hold texts, each is written at
+// once. The record writes that were handed on before a text was shown stand in the files before anyone sees it. After a call that fails
+// nothing is held any more, and no byte is handed on again: the display may have some of them. A machine that is dropped without
+// `flush_display` takes along what it holds back.
+ghost use Rattle.std.specs.Prelude.{◌≡◌, ◌≢◌, ℕ, ◌-◌, ◌<◌, ◌≤◌, false, [], length, take, slice_index, IfOk, IfErr, OnErr};
 ghost use Rattle.std.specs.Option.{ForNone};
 ghost use Rattle.std.specs.Io.{ReadsAtMost};
 ghost use Rattle.std.specs.Io.Buffered.{reader_remaining};
@@ -47,10 +55,12 @@ use crate::command::{compare, read_in_file, write_in_file};
 use crate::drives::{OnDrive, drive_of};
 use crate::kept::KeptSectors;
 use crate::placed::{Failed, Placed};
+use crate::records::memory_of_cylinder;
+use crate::texts::HeldTexts;
 use disk_records::{
     Act, Console, ConsoleError, Disk, DiskError, LINE_END, Machine, Plan, Sector, Shape, Tape,
 };
-use memchr::memchr;
+use memchr::{memchr, memrchr};
 use std::alloc::Global;
 use std::io;
 use std::io::{BufRead, BufReader, Error, ErrorKind, Input, Print, Read};
@@ -62,10 +72,11 @@ const MOST_TRIES: u64 = u64::MAX;
 
 /// A machine over a pack file, or over two of them for two drives, standard input and standard output. It isn't modelled: contracts see its
 /// shape and its counts, and nothing of what the files, the keys and the display hold. The last record writes may be held back until
-/// `flush`. Each fault of the outside, as a read past a file's end, raises the count of its device by one and is answered by Failed; a
-/// count stands at 2^64 - 1 once there. Without faults each cylinder is read twice at most, and from the second time on, or once it is
-/// written while it is kept, it stays in memory for all sectors of the pack that is taken as the machine is made; where that memory is
-/// refused, each sector is read from its file each time. No call takes memory, and a sector that is kept meets no fault of a read.
+/// `flush`, and the last texts that were shown until `flush_display`. Each fault of the outside, as a read past a file's end, raises the
+/// count of its device by one and is answered by Failed; a count stands at 2^64 - 1 once there. Without faults each cylinder is read twice
+/// at most, and from the second time on, or once it is written while it is kept, it stays in memory for all sectors of the pack that is
+/// taken as the machine is made; where that memory is refused, each sector is read from its file each time. No call takes memory, and a
+/// sector that is kept meets no fault of a read.
 #[derive(Drop)]
 pub struct FileMachine<'a, R: Files + Input + Print> {
     rt: &'a R,
@@ -75,8 +86,14 @@ pub struct FileMachine<'a, R: Files + Input + Print> {
     shape: Shape,
     // what was read of the files and is read from memory
     kept: KeptSectors,
+    // what the bytes of a cylinder are read into
+    cylinder: Vec<u8>,
     // standard input, read ahead, so that few calls of the outside bring many keys
     keys: BufReader<R::Reader>,
+    // how many of the keys that were read ahead last stand behind the last line end among them: all of them where none ends a line
+    keys_behind: usize,
+    // what was shown and the display doesn't have yet
+    texts: HeldTexts,
     // record writes of the commands that did all of theirs
     writes: u64,
     disk_faults: u64,
@@ -170,9 +187,12 @@ where
 }
 
 impl<'a, R: Files + Input + Print> Console for FileMachine<'a, R> {
-    ghost use Rattle.std.specs.Prelude.{◌-◌, ◌<◌, ◌≤◌, length, take, IfOk, IsErrOf, IsTrue};
+    ghost use Rattle.std.specs.Prelude.{◌≡◌, ◌-◌, ◌<◌, ◌≤◌, length, take, IfOk, IfErr, IsErrOf, IsOk, IsTrue, OnErr, OnOk};
     ghost use Rattle.disk_records.specs.Tapes.{KeysAlone, ShowAlone, HasRead, HasShown, IsUnbroken, Rose};
     ghost use Rattle.disk_image.specs.Machines.{CountsFault};
+    ghost use Rattle.disk_image.specs.Texts.{HoldsNoText, TakesText};
+
+    ghost displayed = { λ m. HoldsNoText m.texts };
 
     /// A read that a signal interrupts is made again. It takes no memory.
     fn read(&mut self, buf: &mut [u8]) -> Result<usize, ConsoleError>
@@ -186,7 +206,12 @@ impl<'a, R: Files + Input + Print> Console for FileMachine<'a, R> {
         ensures fault { CountsFault (IsErrOf result ConsoleError.Failed) (⟦<FileMachine<'a, R> as Tape>⟧.tape self.old).key_faults (⟦<FileMachine<'a, R> as Tape>⟧.tape self.new).key_faults }
         ensures no_want { IsErrOf result ConsoleError.Memory → ⊥ }
     {
-        match read_keys(&mut self.keys, buf) {
+        let was_empty = self.keys.buffer().is_empty();
+        let answer = read_keys(&mut self.keys, buf);
+        if was_empty {
+            self.keys_behind = keys_behind_lines(self.keys.buffer());
+        }
+        match answer {
             Ok(count) => Ok(count),
             Err(_) => {
                 self.key_faults = self.key_faults.saturating_add(1);
@@ -215,7 +240,14 @@ impl<'a, R: Files + Input + Print> Console for FileMachine<'a, R> {
         }
     }
 
-    /// It hands the bytes on in one write call and keeps none back. It takes no memory.
+    /// Whether a line end is among the keys that were read ahead. It makes no call of the outside and no search.
+    fn has_line(&self) -> bool {
+        self.keys.buffer().len() > self.keys_behind
+    }
+
+    /// It holds the bytes back behind those that are held, where there is room for them among 4,096. Where there isn't, what is held is
+    /// handed on by one write call, and then the bytes are held if they fit, else written by a call of their own. After Failed nothing is
+    /// held, and what the display has of it isn't known. It takes no memory.
     fn show(&mut self, bytes: &[u8]) -> Result<(), ConsoleError>
         requires handed_on { ⟦<FileMachine<'a, R> as Tape>⟧.handed_on self.old }
         ensures handed_on { ⟦<FileMachine<'a, R> as Tape>⟧.handed_on self.new }
@@ -223,11 +255,36 @@ impl<'a, R: Files + Input + Print> Console for FileMachine<'a, R> {
         ensures failed { IsErrOf result ConsoleError.Failed → Rose (⟦<FileMachine<'a, R> as Tape>⟧.tape self.old).show_faults (⟦<FileMachine<'a, R> as Tape>⟧.tape self.new).show_faults }
         ensures shown { IsTrue ⟦<FileMachine<'a, R> as Tape>⟧.told → HasShown bytes.now (⟦<FileMachine<'a, R> as Tape>⟧.tape self.old) (⟦<FileMachine<'a, R> as Tape>⟧.tape self.new) result }
 
-        // What is counted, and what never comes.
+        // What is counted, what never comes, and what is held back.
         ensures fault { CountsFault (IsErrOf result ConsoleError.Failed) (⟦<FileMachine<'a, R> as Tape>⟧.tape self.old).show_faults (⟦<FileMachine<'a, R> as Tape>⟧.tape self.new).show_faults }
         ensures no_want { IsErrOf result ConsoleError.Memory → ⊥ }
+        ensures taken { OnOk result (TakesText bytes.now self.old.texts self.new.texts) }
+        ensures none_held { OnErr result (HoldsNoText self.new.texts) }
     {
-        match Print::write_all(self.rt, bytes) {
+        match self.texts.show(self.rt, bytes) {
+            Ok(()) => Ok(()),
+            Err(_) => {
+                self.show_faults = self.show_faults.saturating_add(1);
+                Err(ConsoleError::Failed)
+            }
+        }
+    }
+
+    /// It hands on what is held by one write call, and makes none where nothing is held. After Failed nothing is held any more. It takes no
+    /// memory.
+    fn flush_display(&mut self) -> Result<(), ConsoleError>
+        ensures displayed { OnOk result (HoldsNoText self.new.texts) }
+        ensures handed_on { ⟦<FileMachine<'a, R> as Tape>⟧.handed_on self.old → ⟦<FileMachine<'a, R> as Tape>⟧.handed_on self.new }
+        ensures alone { ShowAlone (⟦<FileMachine<'a, R> as Tape>⟧.tape self.old) (⟦<FileMachine<'a, R> as Tape>⟧.tape self.new) }
+        ensures failed { OnErr result (Rose (⟦<FileMachine<'a, R> as Tape>⟧.tape self.old).show_faults (⟦<FileMachine<'a, R> as Tape>⟧.tape self.new).show_faults) }
+        ensures only { IfErr result (λ error. error ≡ ConsoleError.Failed) }
+        ensures told { IsTrue ⟦<FileMachine<'a, R> as Tape>⟧.told → IsOk result × ((⟦<FileMachine<'a, R> as Tape>⟧.tape self.new) ≡ (⟦<FileMachine<'a, R> as Tape>⟧.tape self.old)) }
+
+        // What is counted, and that nothing is held, whatever the answer.
+        ensures fault { CountsFault (IsErrOf result ConsoleError.Failed) (⟦<FileMachine<'a, R> as Tape>⟧.tape self.old).show_faults (⟦<FileMachine<'a, R> as Tape>⟧.tape self.new).show_faults }
+        ensures none_held { HoldsNoText self.new.texts }
+    {
+        match self.texts.hand_on(self.rt) {
             Ok(()) => Ok(()),
             Err(_) => {
                 self.show_faults = self.show_faults.saturating_add(1);
@@ -247,7 +304,7 @@ impl<'a, R: Files + Input + Print> FileMachine<'a, R> {
     ghost use Rattle.disk_image.specs.Machines.{IsUntouched};
 
     /// A machine over the files of a pack of this shape, before its first call. Where the shape has two drives there is a second file.
-    /// Where no memory is left for the sectors of the pack, none will be kept.
+    /// Where no memory is left for the sectors of the pack, none will be kept, and where none is left for texts, none will be held back.
     pub(crate) fn over(
         rt: &'a R,
         alloc: Global,
@@ -260,14 +317,19 @@ impl<'a, R: Files + Input + Print> FileMachine<'a, R> {
         ensures untouched { IsUntouched (⟦<FileMachine<'a, R> as Tape>⟧.tape result) }
         ensures handed_on { ⟦<FileMachine<'a, R> as Tape>⟧.handed_on result }
         ensures form { (⟦<FileMachine<'a, R> as Tape>⟧.tape result).form ≡ shape }
+        ensures displayed { ⟦<FileMachine<'a, R> as Console>⟧.displayed result }
     {
+        let keys_behind = keys_behind_lines(keys.buffer());
         FileMachine {
             rt,
             first: Placed::new(alloc, first),
             second: second.map(|file| Placed::new(alloc, file)),
             shape,
             kept: KeptSectors::none_of(alloc, shape),
+            cylinder: memory_of_cylinder(alloc),
             keys,
+            keys_behind,
+            texts: HeldTexts::new(alloc),
             writes: 0,
             disk_faults: 0,
             key_faults: 0,
@@ -368,12 +430,14 @@ where
         match drive_of(self.shape, at) {
             OnDrive::First(spot) => {
                 self.first.hand_on()?;
-                read_in_file(&mut self.first, spot, plan, buf, &mut self.kept)
+                let (file, memory) = (&mut self.first, &mut self.cylinder);
+                read_in_file(file, spot, plan, buf, &mut self.kept, memory)
             }
             OnDrive::Second(spot) => match &mut self.second {
                 Some(file) => {
                     file.hand_on()?;
-                    read_in_file(file, spot, plan, buf, &mut self.kept)
+                    let memory = &mut self.cylinder;
+                    read_in_file(file, spot, plan, buf, &mut self.kept, memory)
                 }
                 None => unreachable!(),
             },
@@ -433,6 +497,18 @@ fn keys_of_line(keys: &[u8]) -> usize
 {
     match memchr(LINE_END, keys) {
         Some(end) => end + 1,
+        None => keys.len(),
+    }
+}
+
+/// Counts the keys behind the last line end among these: all of them where none ends a line.
+fn keys_behind_lines(keys: &[u8]) -> usize
+    ensures fits { result ≤ length keys.now }
+    ensures behind { (k : ℕ) → length keys.now - result ≤ k → k < length keys.now → slice_index keys.now k ≢ 10 }
+    ensures end { result < length keys.now → slice_index keys.now (length keys.now - result - 1) ≡ 10 }
+{
+    match memrchr(LINE_END, keys) {
+        Some(end) => keys.len() - (end + 1),
         None => keys.len(),
     }
 }

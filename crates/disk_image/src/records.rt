@@ -15,6 +15,7 @@ use crate::kept::KeptSectors;
 use crate::placed::{Failed, Placed};
 use crate::spot::CYLINDER_SECTORS;
 use disk_records::{Act, Plan, Sector};
+use std::alloc::Global;
 use std::io;
 use std::io::{Read, Seek, SeekFrom, Write};
 use std::os::unix::fs::FileExt;
@@ -64,20 +65,30 @@ pub(crate) fn read_front<F: Read>(file: &mut F, plan: Plan) -> io::Result<Sector
     Ok(read_sector(&bytes))
 }
 
-/// Reads a cylinder of the pack, on whose first byte the file stands, by one read call, and keeps its sectors. Where that fails, or the
-/// file ends within the cylinder, all that is kept stays as it was.
+/// Memory that the bytes of a cylinder are read into, which is taken once, as clearing it for each would cost as much as reading them.
+/// Where it is refused it has no byte.
+pub(crate) fn memory_of_cylinder(alloc: Global) -> Vec<u8> {
+    match vec![in alloc; 0; CYLINDER_BYTES as usize] {
+        Ok(memory) => memory,
+        Err(_) => Vec::new(alloc),
+    }
+}
+
+/// Reads a cylinder of the pack, on whose first byte the file stands, by one read call into memory that is lent, and keeps its sectors.
+/// Where that fails, or the file ends within the cylinder, all that is kept stays as it was.
 pub(crate) fn read_cylinder<F: Read>(
     file: &mut F,
     cylinder: u16,
     kept: &mut KeptSectors,
+    memory: &mut [u8],
 ) -> io::Result<()>
-    requires { HasRoom kept.old cylinder }
+    requires room { HasRoom kept.old cylinder }
+    requires memory { length memory.old ≡ 12768 }
     ensures ok { OnOk result (ReadsCylinder cylinder (F.remaining file.old) (F.remaining file.new) kept.old kept.new) }
     ensures err { OnErr result (kept.new ≡ kept.old) }
 {
-    let mut bytes = [0; CYLINDER_BYTES as usize];
-    file.read_exact(&mut bytes)?;
-    kept.keep_cylinder(cylinder, &bytes);
+    file.read_exact(memory)?;
+    kept.keep_cylinder(cylinder, memory);
     Ok(())
 }
 

@@ -77,26 +77,61 @@ impl SectorTable {
         ensures below { (k : ℕ) → k < first → sector_in self.new k ≡ sector_in self.old k }
         ensures above { (k : ℕ) → first + 24 ≤ k → sector_in self.new k ≡ sector_in self.old k }
     {
-        self.reach_to(first + CYLINDER_SECTORS as usize);
+        self.reach_to(first);
         for sector in 0..CYLINDER_SECTORS as usize {
-            if sector < other.sectors.len() {
-                self.put_one_from(first + sector, other, sector);
-            } else {
-                self.sectors[first + sector] = None;
-            }
+            self.put_one_from(first + sector, other, sector);
         }
     }
 
-    /// Puts the sector of another table's list that has this number, or None if it is missing, at this place of the list. It is copied
-    /// once, which an assignment to the place isn't.
+    /// Puts the sector of another table that has this number, or None if it is missing, at this place of the list, or at its end.
     fn put_one_from(&mut self, place: usize, other: &SectorTable, number: usize)
-        requires place { place < vec_len self.old.sectors }
-        requires number { number < vec_len other.now.sectors }
-        ensures long { vec_len self.new.sectors ≡ vec_len self.old.sectors }
+        requires capacity { place < vec_capacity self.old.sectors }
+        requires long { place ≤ vec_len self.old.sectors }
+        ensures long { place < vec_len self.new.sectors }
+        ensures capacity { vec_capacity self.old.sectors ≤ vec_capacity self.new.sectors }
         ensures here { sector_in self.new place ≡ sector_in other.now number }
         ensures others { (k : ℕ) → k ≢ place → sector_in self.new k ≡ sector_in self.old k }
     {
-        self.sectors[place..place + 1].copy_from_slice(&other.sectors[number..number + 1]);
+        if number < other.sectors.len() {
+            self.copy_one_from(place, other, number);
+        } else {
+            self.put_none(place);
+        }
+    }
+
+    /// Puts the sector of another table's list that has this number, or None if it is missing, at this place of the list, or at its end. It
+    /// is copied once, which an assignment to the place isn't.
+    fn copy_one_from(&mut self, place: usize, other: &SectorTable, number: usize)
+        requires capacity { place < vec_capacity self.old.sectors }
+        requires long { place ≤ vec_len self.old.sectors }
+        requires number { number < vec_len other.now.sectors }
+        ensures long { place < vec_len self.new.sectors }
+        ensures capacity { vec_capacity self.old.sectors ≤ vec_capacity self.new.sectors }
+        ensures here { sector_in self.new place ≡ sector_in other.now number }
+        ensures others { (k : ℕ) → k ≢ place → sector_in self.new k ≡ sector_in self.old k }
+    {
+        let one = &other.sectors[number..number + 1];
+        if place < self.sectors.len() {
+            self.sectors[place..place + 1].copy_from_slice(one);
+        } else {
+            let _ = self.sectors.extend_from_slice(one);
+        }
+    }
+
+    /// Puts None at this place of the list, or at its end.
+    fn put_none(&mut self, place: usize)
+        requires capacity { place < vec_capacity self.old.sectors }
+        requires long { place ≤ vec_len self.old.sectors }
+        ensures long { place < vec_len self.new.sectors }
+        ensures same_capacity { vec_capacity self.new.sectors ≡ vec_capacity self.old.sectors }
+        ensures here { sector_in self.new place ≡ None }
+        ensures others { (k : ℕ) → k ≢ place → sector_in self.new k ≡ sector_in self.old k }
+    {
+        if place < self.sectors.len() {
+            self.sectors[place] = None;
+        } else {
+            self.sectors.push_reserved(None);
+        }
     }
 
     /// Has at least so many sectors in the list, the new ones missing.

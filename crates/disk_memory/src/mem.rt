@@ -84,6 +84,8 @@ impl Console for MemMachine {
     ghost use Rattle.disk_records.specs.Tapes.{KeysAlone, ShowAlone, HasRead, HasShown, Rose, capped};
     ghost use Rattle.disk_memory.specs.Failing.{IsCalled, next_failure};
 
+    ghost displayed = { λ m. Unit {0} };
+
     /// A call that is to fail takes no key and leaves the buffer as it was. The others take no memory and answer Ok.
     fn read(&mut self, buf: &mut [u8]) -> Result<usize, ConsoleError>
         requires { 0 < length buf.old }
@@ -123,6 +125,11 @@ impl Console for MemMachine {
             return Err(ConsoleError::Failed);
         }
         self.machine.show(bytes)
+    }
+
+    /// It holds nothing back, so it always answers Ok.
+    fn flush_display(&mut self) -> Result<(), ConsoleError> {
+        Ok(())
     }
 }
 

@@ -82,6 +82,8 @@ impl Console for SureMachine {
     ghost use Rattle.std.specs.Prelude.{IfOk, IsErrOf, IsOk};
     ghost use Rattle.disk_records.specs.Tapes.{KeysAlone, HasRead, Rose};
 
+    ghost displayed = { λ m. Unit {0} };
+
     /// It takes no memory and always answers Ok.
     fn read(&mut self, buf: &mut [u8]) -> Result<usize, ConsoleError>
         requires { 0 < length buf.old }
@@ -103,6 +105,11 @@ impl Console for SureMachine {
             Ok(()) => Ok(()),
             Err(AllocError) => Err(ConsoleError::Memory),
         }
+    }
+
+    /// It holds nothing back, so it always answers Ok.
+    fn flush_display(&mut self) -> Result<(), ConsoleError> {
+        Ok(())
     }
 }
 

@@ -90,6 +90,10 @@ pub const LINE_END: u8 = 10;
 
 /// A keyboard and a display.
 pub trait Console: Tape {
+    /// Whether all bytes shown so far, except those that were lost at a fault, were handed on to the display. A machine in memory holds none
+    /// back, and has always handed them on.
+    ghost displayed: { Self → Type 0 };
+
     /// Moves keys to the front of `buf` and answers how many: 0 exactly at the end of input.
     fn read(&mut self, buf: &mut [u8]) -> Result<usize, ConsoleError>
         requires { 0 < length buf.old }
@@ -111,13 +115,30 @@ pub trait Console: Tape {
         self.read(&mut buf[..1])
     }
 
-    /// Shows these bytes. Whoever sees them may rely on what was written before, so all record writes have to be handed on by then.
+    /// Whether the keys of a whole line are there, so that they can be taken without waiting for any. False doesn't rule it out.
+    fn has_line(&self) -> bool {
+        false
+    }
+
+    /// Shows these bytes. Whoever sees them may rely on what was written before, so all record writes have to be handed on by then. A machine
+    /// may hold the bytes back, behind those that were shown before, until the next call of `flush_display`; one that is modelled holds none
+    /// back.
     fn show(&mut self, bytes: &[u8]) -> Result<(), ConsoleError>
         requires handed_on { Self.handed_on self.old }
         ensures handed_on { Self.handed_on self.new }
         ensures alone { ShowAlone (Self.tape self.old) (Self.tape self.new) }
         ensures failed { IsErrOf result ConsoleError.Failed → Rose (Self.tape self.old).show_faults (Self.tape self.new).show_faults }
         ensures shown { IsTrue Self.told → HasShown bytes.now (Self.tape self.old) (Self.tape self.new) result };
+
+    /// Hands on to the display the bytes that the machine holds back. After Failed some of them may be lost, the last ones; no other error
+    /// comes.
+    fn flush_display(&mut self) -> Result<(), ConsoleError>
+        ensures displayed { OnOk result (Self.displayed self.new) }
+        ensures handed_on { Self.handed_on self.old → Self.handed_on self.new }
+        ensures alone { ShowAlone (Self.tape self.old) (Self.tape self.new) }
+        ensures failed { OnErr result (Rose (Self.tape self.old).show_faults (Self.tape self.new).show_faults) }
+        ensures only { IfErr result (λ error. error ≡ ConsoleError.Failed) }
+        ensures told { IsTrue Self.told → IsOk result × (Self.tape self.new ≡ Self.tape self.old) };
 }
 
 /// A whole machine: one disk drive, a keyboard and a display, with one tape.

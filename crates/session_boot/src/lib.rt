@@ -11,8 +11,8 @@
 //!    display failed, and none where the disk failed or no memory was left; nothing is written and no key is taken.
 //!
 //! And of every machine: no text is shown while record writes are held back, and unless a fault or out of memory is answered all are handed on
-//! at the end (`handed_on`). DiskFault, KeyFault and DisplayFault come only where their own count rose (`cause`); Usage and CannotScavenge,
-//! which are statuses of other words, are never answered (`answers`).
+//! at the end (`handed_on`); texts may be held back then (`flush_display`). A fault comes only where the count of its own device rose (`cause`);
+//! Usage and CannotScavenge, which are statuses of other words, are never answered (`answers`).
 //! Not promised: that memory is left; that no command follows a failed one, which a tape doesn't tell.
 #![tactic(auto)]
 
@@ -25,6 +25,6 @@ mod status;
 mod text;
 
 pub use booting::boot;
-pub use console::show_all;
+pub use console::{flush_display, show_all};
 pub use status::{Fault, Status};
 pub use text::{push_spaced, push_with_number};

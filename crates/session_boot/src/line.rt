@@ -11,7 +11,7 @@ ghost use Rattle.session_model.specs.Keeping.{Formed};
 ghost use Rattle.session_model.specs.Turning.{cue_for, ended};
 ghost use Rattle.std.specs.Prelude.{IfOk, IfSome, IsErrOf, IsTrue, OnOk, length, ◌<◌, ◌≡◌};
 
-use crate::console::show_reply;
+use crate::console::{flush_unless, show_reply};
 use crate::keys::take_line;
 use crate::status::Fault;
 use disk_records::{Disk, Machine};
@@ -112,8 +112,32 @@ fn answer_line<M: Machine>(
     Ok(next)
 }
 
+/// Answers a typed line, as `answer_line` does. Before `quit`, which closes the pack, the display has to have what was shown before: so
+/// a display that failed leaves the pack open.
+///
+/// Display: also where the display failed before the line was obeyed.
+fn answer_text<M: Machine>(
+    alloc: Global,
+    machine: &mut M,
+    session: &mut Session,
+    text: &[u8],
+) -> Result<Next, Fault>
+    requires formed { Formed (M.tape machine.old).form (kept session.old) }
+    ensures turn { IsTrue M.told → TakesTurnBy (M.tape machine.old) (M.tape machine.new) (kept session.old) (kept session.new) (cue_of text.now) result }
+    ensures limit { (kept session.new).tally.limit ≡ (kept session.old).tally.limit }
+    ensures formed { Formed (M.tape machine.new).form (kept session.new) }
+    ensures cause { HasFaultCause (M.tape machine.old) (M.tape machine.new) result }
+    ensures handed_on { OnOk result (M.handed_on machine.new) }
+    ensures no_key { IsErrOf result Fault.Key → ⊥ }
+    ensures grown { Grown (M.tape machine.old) (M.tape machine.new) }
+    ensures keys { (M.tape machine.new).keys ≡ (M.tape machine.old).keys }
+{
+    flush_unless(machine, text != b"quit".as_slice())?;
+    answer_line(alloc, machine, session, text)
+}
+
 /// Takes the keys of the next line to `buffer` and answers it; None where no key is left that counts. `left` is the number of those that do.
-pub(crate) fn answer_next<M: Machine>(
+fn answer_typed<M: Machine>(
     alloc: Global,
     machine: &mut M,
     session: &mut Session,
@@ -133,8 +157,33 @@ pub(crate) fn answer_next<M: Machine>(
         return Ok(None);
     };
     let text = &buffer[..kept];
-    let next = answer_line(alloc, machine, session, text)?;
+    let next = answer_text(alloc, machine, session, text)?;
     Ok(Some(next))
+}
+
+/// Answers the next line, as `answer_typed` does. Unless its keys are there already, the display has to have what was shown before: until
+/// then somebody may wait for it.
+///
+/// Display: also where the display failed before a key was taken.
+pub(crate) fn answer_next<M: Machine>(
+    alloc: Global,
+    machine: &mut M,
+    session: &mut Session,
+    buffer: &mut [u8],
+    left: &mut u32,
+) -> Result<Option<Next>, Fault>
+    requires room { 4097 < length buffer.old }
+    requires formed { Formed (M.tape machine.old).form (kept session.old) }
+    ensures next { IsTrue M.told → NextTurn (M.tape machine.old) (M.tape machine.new) (kept session.old) (kept session.new) left.old left.new result }
+    ensures limit { (kept session.new).tally.limit ≡ (kept session.old).tally.limit }
+    ensures formed { Formed (M.tape machine.new).form (kept session.new) }
+    ensures cause { HasFaultCause (M.tape machine.old) (M.tape machine.new) result }
+    ensures handed_on { IfOk result (λ next. IfSome next (λ over. M.handed_on machine.new)) }
+    ensures grown { Grown (M.tape machine.old) (M.tape machine.new) }
+{
+    let is_typed = machine.has_line();
+    flush_unless(machine, is_typed)?;
+    answer_typed(alloc, machine, session, buffer, left)
 }
 
 /// Ends the session: the pack is closed, unless a scavenge is needed. A text says which hint failed, if one did.

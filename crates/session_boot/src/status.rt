@@ -19,7 +19,7 @@ pub enum Status {
     DiskFault = 3,
     /// The keyboard failed. The lines that ended before have their replies.
     KeyFault = 4,
-    /// The display failed. No record write follows the first byte that wasn't shown.
+    /// The display failed. Modelled, no record write follows the first byte that wasn't shown; else lines typed ahead may have been obeyed.
     DisplayFault = 5,
     /// No memory was left. What was acknowledged stands on the pack, if it was sound and clean.
     Memory = 6,

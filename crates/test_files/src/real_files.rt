@@ -515,7 +515,7 @@ fn a_call_that_breaks_off_at_a_page_leaves_what_was_written_first(
 }
 
 #[test]
-fn keys_are_read_ahead_and_replies_shown_whole(rt: HostRuntime) -> Result<(), Fail> {
+fn keys_are_read_ahead_and_replies_shown_together(rt: HostRuntime) -> Result<(), Fail> {
     let alloc = rt.alloc();
     // a pair of lines has 1,017 keys: 19,323 of them in two reads and one that finds the end, and 67,122 in five and one
     for (pairs, most_reads) in [(19u64, 3), (66, 6)] {
@@ -535,7 +535,8 @@ fn keys_are_read_ahead_and_replies_shown_whole(rt: HostRuntime) -> Result<(), Fa
             log.shown(alloc)?.as_slice() == replies.as_slice(),
             "{pairs}"
         );
-        assert!(rt; log.shows() == 2 * pairs, "{pairs}");
+        // the replies to the lines that one read brings are shown by one call, before the next read
+        assert!(rt; log.shows() <= most_reads, "{pairs}");
         assert!(rt; log.key_reads() <= most_reads, "{pairs}");
         fs::remove_file(&rt, "typed")?;
     }

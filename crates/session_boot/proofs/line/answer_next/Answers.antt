@@ -1,20 +1,13 @@
-use Rattle.std.proofs.Common.{Err, Ok, subst, take}
+use Rattle.std.proofs.Common.{subst}
+use Rattle.std.proofs.lemmas.Bool.{false≢true}
 use Rattle.exec_session.specs.Meant.{kept}
-use Rattle.session_model.specs.Ending.{cue_of}
-use Rattle.session_boot.specs.Keys.{TookLine}
-use Rattle.session_boot.specs.Turns.{TakesTurnBy}
-use Rattle.session_boot.proofs.Answers.{err_is}
-use Rattle.session_boot.proofs.Nexts.{next_broke}
+use Rattle.session_boot.specs.Turns.{NextTurn}
 use Rattle.session_boot.proofs.line.answer_next.Goals as goal
 
-pub returns-in_err-next-clause-next : goal.returns-in_err-next-clause-next
-returns-in_err-next-clause-next g c = λ told.
-    let x = g.M.Tape.tape c.args.machine.now in
-    let y = g.M.Tape.tape c.take_line.new.console in
-    let z = g.M.Tape.tape c.answer_line.new.machine in
-    let result = c.from_residual-in_err-next.result in
-    let fault = c.in_err-next.field-0.0 in
-    let text = take c.in-Some.kept c.take_line.new.buffer in
-    let took = subst (λ o. TookLine x.keys y.keys c.args.left.now c.take_line.new.left c.take_line.new.buffer (Ok o)) c.in-Some.is (c.in_ok-kept.ensures.line told) in
-    let turn : TakesTurnBy y z (kept c.args.session.now) (kept c.answer_line.new.session) (cue_of text) (Err fault) = c.in_err-next.ensures.turn told in
-    next_broke text c.take_line.ensures.alone c.answer_line.ensures.keys took result fault turn c.in_err-next.ensures.no_key (err_is result fault c.from_residual-in_err-next.ensures.1)
+pub returns-in_err-flush_unless-clause-next : goal.returns-in_err-flush_unless-clause-next
+returns-in_err-flush_unless-clause-next g c = λ told. absurd (false≢true (c.in_err-flush_unless.ensures.told told).0)
+
+pub returns-clause-next : goal.returns-clause-next
+returns-clause-next g c = λ told.
+    subst (λ t. NextTurn t (g.M.Tape.tape c.answer_typed.new.machine) (kept c.args.session.now) (kept c.answer_typed.new.session) c.args.left.now c.answer_typed.new.left c.answer_typed.result)
+    (c.in_ok-flush_unless.ensures.told told).1 (c.answer_typed.ensures.next told)
