@@ -658,7 +658,7 @@ def check_shrinking_second(program):
 
 
 def check_whole_writes(program):
-    """A listing and each other text is shown by one write call, and so are all replies to lines that are typed ahead: a socket of packets
+    """A listing and each other text is shown by one write call, and so are few replies to lines that are typed ahead: a socket of packets
     keeps calls apart."""
     second = ["--second", "second"]
     rows = [
