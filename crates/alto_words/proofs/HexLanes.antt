@@ -100,8 +100,8 @@ max_lanes (x ∷ xs) (y ∷ ys) = λ i. greater_lane x y i ∷ max_lanes xs ys i
 less_lane : (x : ℕ) → x < 256 → (cond (leb (2 ^ 7) (cond (ltb x 6) 255 0)) 6 x + (256 - 6)) % 256 ≡ x - 6
 less_lane x byte = ap (λ t. (cond t 6 x + (256 - 6)) % 256) (marked (ltb x 6)) ∙ grind (arith, nat_tests)
 
-more_lane : (y : ℕ) → y < 256 → (y + cond (leb (2 ^ 7) (cond (ltb 10 (255 - y)) 255 0)) 10 (255 - y)) % 256 ≡ min (y + 10) 255
-more_lane y byte = ap (λ t. (y + cond t 10 (255 - y)) % 256) (marked (ltb 10 (255 - y))) ∙ grind (arith, nat_tests)
+more_lane : (y : ℕ) → y < 256 → (10 + cond (leb (2 ^ 7) (cond (ltb y (255 - 10)) 255 0)) y (255 - 10)) % 256 ≡ min (y + 10) 255
+more_lane y byte = ap (λ t. (10 + cond t y (255 - 10)) % 256) (marked (ltb y (255 - 10))) ∙ grind (arith, nat_tests)
 
 lesser_lane : (a b : ℕ) → cond (leb (2 ^ 7) (cond (ltb a b) 255 0)) a b ≡ min a b
 lesser_lane a b = ap (λ t. cond t a b) (marked (ltb a b)) ∙ grind (arith, nat_tests)
@@ -120,8 +120,8 @@ from_a n cs = zip2 (λ a b. (a + (256 - b)) % 256) (zip2 bit_and cs (replicate n
 
 abbrev letter_lanes : ℕ → List ℕ → List ℕ
 letter_lanes n cs =
-    zip2 (λ a b. (a + b) % 256) (from_a n cs)
-    (sel_l (below (replicate n 10) (map (λ a. 255 - a) (from_a n cs))) (replicate n 10) (map (λ a. 255 - a) (from_a n cs)))
+    zip2 (λ a b. (a + b) % 256) (replicate n 10)
+    (sel_l (below (from_a n cs) (map (λ a. 255 - a) (replicate n 10))) (from_a n cs) (map (λ a. 255 - a) (replicate n 10)))
 
 -- each lane becomes the value of its digit
 pub lane_values : (n : ℕ) (cs : List ℕ) → length cs ≡ n
@@ -135,13 +135,13 @@ lane_values (suc n) (c ∷ cs) long = λ i. lane_value c i ∷ lane_values n cs 
         → (let x = (c + (256 - 58)) % 256 in
         let y = (bit_and c 223 + (256 - 65)) % 256 in
         let decimal = ((cond (leb (2 ^ 7) (cond (ltb x 6) 255 0)) 6 x + (256 - 6)) % 256 + 16) % 256 in
-        let letter = (y + cond (leb (2 ^ 7) (cond (ltb 10 (255 - y)) 255 0)) 10 (255 - y)) % 256 in
+        let letter = (10 + cond (leb (2 ^ 7) (cond (ltb y (255 - 10)) 255 0)) y (255 - 10)) % 256 in
         cond (leb (2 ^ 7) (cond (ltb decimal letter) 255 0)) decimal letter ≡ digit_value c)
     lane_value c =
         let x = (c + (256 - 58)) % 256 in
         let y = (bit_and c 223 + (256 - 65)) % 256 in
         let decimal = ((cond (leb (2 ^ 7) (cond (ltb x 6) 255 0)) 6 x + (256 - 6)) % 256 + 16) % 256 in
-        let letter = (y + cond (leb (2 ^ 7) (cond (ltb 10 (255 - y)) 255 0)) 10 (255 - y)) % 256 in
+        let letter = (10 + cond (leb (2 ^ 7) (cond (ltb y (255 - 10)) 255 0)) y (255 - 10)) % 256 in
         lesser_lane decimal letter ∙ (λ i. min ((less_lane x (omega arith) i + 16) % 256) (more_lane y (omega arith) i))
 
 -- no lane passes a test if and only if none has a bit in the mask

@@ -170,9 +170,8 @@ fn values_of_digits(digits: u8x16) -> u8x16
 {
     let decimal = (digits - u8x16::splat(b'9' + 1)).saturating_sub(u8x16::splat(6))
         + u8x16::splat(16);
-    let letter = ((digits & u8x16::splat(0xDF)) - u8x16::splat(b'A')).saturating_add(u8x16::splat(
-        10,
-    ));
+    let from_a = (digits & u8x16::splat(0xDF)) - u8x16::splat(b'A');
+    let letter = u8x16::splat(10).saturating_add(from_a);
     decimal.simd_min(letter)
 }
 
