@@ -17,3 +17,4 @@ pub mod Hands
 pub mod Meeting
 pub mod Turns
 pub mod Stepping
+pub mod Keyed

@@ -1,9 +1,9 @@
 -- Slots that are passed over where they stand: bare names in the words of entries, and a walk after such slots.
-use Rattle.std.proofs.Common.{◌≡◌, ℕ, zero, suc, ◌+◌, ◌-◌, ◌*◌, ◌/◌, ◌%◌, ◌≤◌, true, false, ◌==◌, IsTrue, List, [], ◌∷◌, ◌++◌, length, take, drop, get_or, Some, None, refl, sym, ap, ◌∙◌, subst, arith, append_assoc, append-nil}
+use Rattle.std.proofs.Common.{◌≡◌, ℕ, zero, suc, ◌+◌, ◌-◌, ◌*◌, ◌/◌, ◌%◌, ◌<◌, ◌≤◌, Bool, true, false, ◌==◌, IsTrue, List, [], ◌∷◌, ◌++◌, length, take, drop, get_or, Some, None, refl, sym, ap, ◌∙◌, subst, arith, append_assoc, append-nil}
 use Rattle.std.specs.List.{list_all}
 use Rattle.std.proofs.lemmas.Bool.{and_from, and_parts, both_ways, cond-true, eq-eqb, eqb-true, false_from_ne_true, le-leb}
-use Rattle.std.proofs.lemmas.List.{drop-drop, get_or-drop, get_or-map, get_or-take, length-drop, length-map, length-take-le, length_push, take_all, take_more, take_rest}
-use Rattle.std.proofs.lemmas.List.Elements.{All-push}
+use Rattle.std.proofs.lemmas.List.{drop-drop, get_or-drop, get_or-map, get_or-take, length-drop, length-map, length-append, length-take-le, length_push, take-take, take_all, take_more, take_rest}
+use Rattle.std.proofs.lemmas.List.Elements.{All-append, All-push}
 use Rattle.std.proofs.lemmas.List.Folds.{list_all-append}
 use Rattle.alto_words.specs.Fid.{is_full_name}
 use Rattle.alto_words.specs.Names.{fold_case, is_bare_name, is_name_character, is_same_name, is_stored_name, stored_in}
@@ -24,12 +24,12 @@ use Rattle.dir_slots.specs.Items.{item_of}
 use Rattle.dir_slots.specs.Others.{IsOther, Passes}
 use Rattle.dir_slots.specs.Walks.{Meets, Walked, Walking, placed_slots, slot_met}
 use Rattle.dir_slots.proofs.Entries.{entry_from, named_parts}
-use Rattle.dir_slots.proofs.Hands.{hand_of, whole_is}
+use Rattle.dir_slots.proofs.Hands.{first_stays, hand_of, whole_is}
 use Rattle.dir_slots.proofs.Heads.{slot_at-file, slot_at-free}
 use Rattle.dir_slots.proofs.Meeting.{meets_more}
 use Rattle.dir_slots.proofs.Names.{name_of-parts}
 use Rattle.dir_slots.proofs.NameWords.{after_name}
-use Rattle.dir_slots.proofs.Stepping.{nothing_is}
+use Rattle.dir_slots.proofs.Stepping.{nothing_is, walking}
 use Rattle.dir_slots.proofs.Turns.{more_of_page}
 
 -- ---- bytes in words
@@ -232,6 +232,15 @@ passes_next p first mid later old walk met before meets other = record {
   others = All-push (λ s. IsOther p s.item) before.seen (slot_met met) before.others other;
 }
 
+-- and then others
+pub passes_both : (p : Passing) (first mid later : List ℕ) (old walk : Walking) → Passes p first mid old → Passes p mid later walk → Passes p first later walk
+passes_both p first mid later old walk x y = record {
+  walked = y.walked;
+  seen = x.seen ++ y.seen;
+  slots = y.slots ∙ ap (λ l. l ++ y.seen) x.slots ∙ append_assoc (placed_slots first) x.seen y.seen;
+  others = All-append (λ s. IsOther p s.item) x.seen y.seen x.others y.others;
+}
+
 passes_one : (p : Passing) (given words : List ℕ) (n : ℕ) (walk : Walking) → Walked given walk → walk.held ≡ 0 → walk.ended ≡ false → (o : IsOtherAt p words n) → Meets given (given ++ take n words) (further walk n) (Some (record { place = walk.place; slot = o.slot }))
 passes_one p given words n walk walked none going o =
     let was = walked.held going in
@@ -242,6 +251,34 @@ passes_one p given words n walk walked none going o =
     let whole : item_words (item_of o.slot) ≡ n = whole_is (take n words) (item_of o.slot) (taken_first words n o.least o.states ∙ sym long) (sym o.reads) ∙ long in
     meets_more given (take n words) walk (further walk n) walked (record { place = walk.place; slot = o.slot }) refl (ap (λ (k : ℕ). walk.place + k) (sym size)) going
     (record { held = none; front = was.front ∙ ap (take 26) empty }) (ap slot_at joined ∙ sym o.reads) (whole ∙ sym size) (o.address ∙ ap (λ l. address_at l 0 (item_of o.slot)) (sym joined))
+
+-- the slot in hand, with the words of the page that end it
+pub passes_hand : (p : Passing) (page given : List ℕ) (from place held size n : ℕ) (front fresh : List ℕ) (ended : Bool) → Walked (given ++ take from page) (walking place held front ended) → ended ≡ false → 0 < held → size ≡ get_or front 0 0 % 1024
+    → held ≤ size → size ≤ 26 → from ≤ length page → size - held ≤ length page - from → take size fresh ≡ take held front ++ take (size - held) (drop from page) → IsOtherAt p (take size fresh) n
+    → Passes p (given ++ take from page) (given ++ take (from + (size - held)) page) (walking (place + size) 0 fresh ended)
+passes_hand p page given from place held size n front fresh ended walked going some states more most within few now o =
+    let before : List ℕ = given ++ take from page in
+    let rest : List ℕ = take (size - held) (drop from page) in
+    let old : Walking = walking place held front ended in
+    let new : Walking = walking (place + size) 0 fresh ended in
+    let was = walked.held going in
+    let w : List ℕ = take size fresh in
+    let is : hand_of before ≡ take held front = sym (was.front ∙ take_all 26 (hand_of before) (omega (arith, was.held, more, most))) in
+    let joined : hand_of before ++ rest ≡ w = ap (λ l. l ++ rest) is ∙ sym now in
+    let rest_is : length rest ≡ size - held = length-take-le (size - held) (drop from page) (omega (arith, few, length-drop from page)) in
+    let size_is : length (hand_of before ++ rest) ≡ size = omega (arith, length-append (hand_of before) rest, was.held, rest_is, more) in
+    let long : length w ≡ size = ap (λ (l : List ℕ). length l) (sym joined) ∙ size_is in
+    let head : first_length w ≡ size =
+    ap first_length (sym joined) ∙ first_stays (hand_of before) rest (omega (arith, was.held, some)) ∙ ap first_length is ∙ ap (λ x. x % 1024) (get_or-take held front 0 0 some) ∙ sym states in
+    let whole : take n w ≡ w = take_all n w (omega (arith, o.states, head, long)) in
+    let reads : slot_at w ≡ Some (item_of o.slot) = sym (o.reads ∙ ap slot_at whole) in
+    let met : PlacedSlot = record { place = place; slot = o.slot } in
+    let meets : Meets before (before ++ rest) new (Some met) =
+    meets_more before rest old new walked met refl (ap (λ (k : ℕ). place + k) (sym size_is)) going (record { held = refl; front = refl }) (ap slot_at joined ∙ reads) (whole_is w (item_of o.slot) (head ∙ sym long) reads ∙ long ∙ sym size_is)
+    (o.address ∙ ap (λ l. address_at l 0 (item_of o.slot)) (whole ∙ sym joined)) in
+    let all : before ++ rest ≡ given ++ take (from + (size - held)) page =
+    ap (λ l. before ++ l) (sym (take-take (size - held) (length page - from) (drop from page) few)) ∙ more_of_page given page from (size - held) within few in
+    passes_next p before before (given ++ take (from + (size - held)) page) old new met (passes_none p before old walked) (subst (λ l. Meets before l new (Some met)) all meets) o.other
 
 -- none was passed over yet
 pub passes_start : (p : Passing) (given : List ℕ) (walk : Walking) (from : ℕ) → Walked given walk → Passes p given given (further walk (from - from))

@@ -3,3 +3,4 @@ pub mod Items
 pub mod Laws
 pub mod Others
 pub mod Walks
+pub mod Judged

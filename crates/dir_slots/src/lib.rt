@@ -20,12 +20,13 @@
 //! 4. A `Walk` meets the slots of a directory whose words are given page by page: after each page exactly those that end in what was
 //!    given (`meets`, `walked`), each with its place. Over a page's end it keeps 26 words at most, and it takes no memory. A scan may
 //!    let it pass over slots that need not be met (`passes`): free ones, entries of bare names other than one, or of all bare names. These
-//!    are judged where they stand, with no slot made.
+//!    are judged where they stand, with no slot made, and `JudgedPages` keeps what was judged beside the words that it was judged by.
 //! 5. `find_room` answers the first room for an entry, and None if and only if no free slots in a row have so many words.
 //! Not promised: that an address is that of the leader. Who follows one checks it by the label that stands there.
 #![tactic(auto)]
 
 mod codec;
+mod judged;
 mod laws;
 mod others;
 mod read;
@@ -35,6 +36,7 @@ mod walk;
 mod write;
 
 pub use codec::slot_here;
+pub use judged::JudgedPages;
 pub use laws::{longest_is_read, reads_back};
 pub use others::Passing;
 pub use read::{first_slot, read_slots};

@@ -61,17 +61,17 @@ const CHARACTERS: [bool; 256] = [
 /// What tells most entries from those of a name, in whatever case: the low five bits of three bytes of its entry's last two words. The
 /// case changes none of these bits. They are worked out once, and most names of a directory differ in them.
 #[derive(Drop)]
-struct Ending {
+pub(crate) struct Ending {
     /// Those of the high byte of the last word, or more than five bits where there is no name.
-    last: u8,
+    pub last: u8,
     /// Those of the high byte of the word before it.
-    high: u8,
+    pub high: u8,
     /// Those of its low byte.
-    low: u8,
+    pub low: u8,
 }
 
 /// The ending of a name, if there is one.
-fn ending_of(name: &Option<Name>) -> Ending
+pub(crate) fn ending_of(name: &Option<Name>) -> Ending
     ensures { TellsOthers name.now result.last result.high result.low }
 {
     match name {
@@ -105,11 +105,12 @@ fn counted_byte(name: &[u8], at: usize) -> u8
 }
 
 /// How many words the slot has that these words begin with, if all of it is here and it may be passed over. None doesn't rule that out.
-fn other_here(words: &[u16], passing: &Passing, ending: &Ending) -> Option<usize>
+pub(crate) fn other_here(words: &[u16], passing: &Passing, ending: &Ending) -> Option<usize>
     requires { TellsOthers passing.now.name ending.now.last ending.now.high ending.now.low }
     ensures other { IfSome result (IsOtherAt passing.now words.now) }
     ensures least { IfSome result (λ n. 1 ≤ n) }
     ensures within { IfSome result (λ n. n ≤ length words.now) }
+    ensures entry { IfSome result (λ n. 1024 ≤ word words.now 0 → IsBareEntry (take n words.now)) }
 {
     let first = *words.first()?;
     if first < FEWEST || MOST < first {
@@ -131,6 +132,7 @@ fn free_here(words: &[u16], free: bool) -> Option<usize>
     ensures other { (passing : Passing) → passing.free ≡ free → IfSome result (IsOtherAt passing words.now) }
     ensures least { IfSome result (λ n. 1 ≤ n) }
     ensures within { IfSome result (λ n. n ≤ length words.now) }
+    ensures free { IfSome result (λ n. word words.now 0 < 1024) }
 {
     let length = words[0] as usize;
     if length == 0 || length >= ENTRY_TYPE as usize || length > words.len() {

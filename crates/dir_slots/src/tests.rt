@@ -1,7 +1,7 @@
 // Rows of slots whose words and rooms are known, and each call that takes memory once with enough of it.
 use crate::{
-    Passing, PlacedSlot, Room, Slot, Walk, entry_words, find_room, largest_run, read_slots,
-    slot_here, write_slots,
+    JudgedPages, Passing, PlacedSlot, Room, Slot, Walk, entry_words, find_room, largest_run,
+    read_slots, slot_here, write_slots,
 };
 use alto_words::{Fid, Memory, Name};
 use std::alloc::Global;
@@ -291,4 +291,124 @@ fn a_walk_passes_over_entries_alone(rt: HostRuntime) {
     // and a version
     assert_eq!(rt; from, 21);
     assert_eq!(rt; walk.place(), 21);
+}
+
+#[test]
+fn a_walk_passes_over_a_slot_in_hand(rt: HostRuntime) -> Result<(), Fail> {
+    // the entries of A and B, and then one of A!2, in two pages that meet anywhere
+    let mut words = [0; 25];
+    words[..8].copy_from_slice(&ENTRY_OF_A);
+    words[8..16].copy_from_slice(&ENTRY_OF_A);
+    words[14] = 0x0242;
+    words[16..].copy_from_slice(&ENTRY_WITH_A_VERSION);
+    let but_c = Passing {
+        free: true,
+        name: Some(Name::parse(b"c").ok_or("a name")?),
+    };
+    let slot = entry(Name::parse(b"A!2").ok_or("a name")?);
+    for split in 0..25usize {
+        let (mut walk, mut from) = (Walk::new(), 0);
+        walk.pass_others(&words[..split], &mut from, &but_c);
+        assert_eq!(rt; walk.next(&words[..split], &mut from), None);
+        from = 0;
+        walk.pass_others(&words[split..], &mut from, &but_c);
+        // a version is met
+        assert_eq!(rt; (walk.place(), from), (16, 16usize.saturating_sub(split)));
+        assert_eq!(rt;
+            walk.next(&words[split..], &mut from),
+            Some(PlacedSlot { place: 16, slot })
+        );
+        assert_eq!(rt; from, 25 - split);
+    }
+    Ok(())
+}
+
+/// Where a scan for a name stops in the second of two pages, of which the first has no slot that it is handed.
+fn second_stop(
+    judged: &mut JudgedPages,
+    pages: [&[u16; 256]; 2],
+    name: &[u8],
+) -> Result<(u32, usize), Fail> {
+    let passing = Passing {
+        free: true,
+        name: Some(Name::parse(name).ok_or("a name")?),
+    };
+    let (mut walk, mut from) = (Walk::new(), 0);
+    judged.pass_others(&mut walk, pages[0], &mut from, &passing);
+    walk.next(pages[0], &mut from);
+    from = 0;
+    judged.pass_others(&mut walk, pages[1], &mut from, &passing);
+    Ok((walk.place(), from))
+}
+
+#[test]
+fn a_page_is_judged_after_a_slot_in_hand(rt: HostRuntime) -> Result<(), Fail> {
+    // a free slot of 252 words, and the entries of A, of which four words stand in the next page, of B, and of A!2
+    let mut page = [0; 256];
+    page[0] = 252;
+    page[252..].copy_from_slice(&ENTRY_OF_A[..4]);
+    let mut next_page = [0; 256];
+    next_page[..4].copy_from_slice(&ENTRY_OF_A[4..]);
+    next_page[4..12].copy_from_slice(&ENTRY_OF_A);
+    next_page[10] = 0x0242;
+    next_page[12..21].copy_from_slice(&ENTRY_WITH_A_VERSION);
+    let mut judged = JudgedPages::new(rt.alloc());
+    let pages = [&page, &next_page];
+    assert_eq!(rt; second_stop(&mut judged, pages, b"c")?, (268, 12));
+    assert_eq!(rt; second_stop(&mut judged, pages, b"c")?, (268, 12));
+    assert_eq!(rt; second_stop(&mut judged, pages, b"b")?, (260, 4));
+    // the entry of A stays in hand, and is met
+    assert_eq!(rt; second_stop(&mut judged, pages, b"a")?, (252, 0));
+    Ok(())
+}
+
+/// Where a scan for a name first stops in the first page of a directory: by what was judged before, and with nothing judged.
+fn first_stops(
+    judged: &mut JudgedPages,
+    page: &[u16; 256],
+    name: &[u8],
+) -> Result<(usize, usize), Fail> {
+    let passing = Passing {
+        free: true,
+        name: Some(Name::parse(name).ok_or("a name")?),
+    };
+    let (mut walk, mut from) = (Walk::new(), 0);
+    judged.pass_others(&mut walk, page, &mut from, &passing);
+    let (mut fresh, mut stop) = (Walk::new(), 0);
+    fresh.pass_others(page, &mut stop, &passing);
+    Ok((from, stop))
+}
+
+#[test]
+fn words_that_change_are_judged_again(rt: HostRuntime) -> Result<(), Fail> {
+    // the entries of A and B, and then one of A!2
+    let mut page = [0; 256];
+    page[..8].copy_from_slice(&ENTRY_OF_A);
+    page[8..16].copy_from_slice(&ENTRY_OF_A);
+    page[14] = 0x0242;
+    page[16..25].copy_from_slice(&ENTRY_WITH_A_VERSION);
+    let mut judged = JudgedPages::new(rt.alloc());
+    assert_eq!(rt; first_stops(&mut judged, &page, b"c")?, (16, 16));
+    assert_eq!(rt; first_stops(&mut judged, &page, b"c")?, (16, 16));
+    assert_eq!(rt; first_stops(&mut judged, &page, b"b")?, (8, 8));
+    // the first becomes an entry of C, and then none
+    page[6] = 0x0243;
+    assert_eq!(rt; first_stops(&mut judged, &page, b"c")?, (0, 0));
+    assert_eq!(rt; first_stops(&mut judged, &page, b"b")?, (8, 8));
+    page[7] = 0x2E01;
+    assert_eq!(rt; first_stops(&mut judged, &page, b"b")?, (0, 0));
+    Ok(())
+}
+
+#[test]
+fn names_that_keys_do_not_tell_apart(rt: HostRuntime) -> Result<(), Fail> {
+    // the entries of XAB and YAB, which differ in the first character alone
+    let mut page = [0; 256];
+    page[..9].copy_from_slice(&[1033, 0, 3, 1, 0, 5, 0x0458, 0x4142, 0x2E00]);
+    page[9..18].copy_from_slice(&[1033, 0, 3, 1, 0, 5, 0x0459, 0x4142, 0x2E00]);
+    let mut judged = JudgedPages::new(rt.alloc());
+    assert_eq!(rt; first_stops(&mut judged, &page, b"zzz")?, (18, 18));
+    assert_eq!(rt; first_stops(&mut judged, &page, b"yab")?, (9, 9));
+    assert_eq!(rt; first_stops(&mut judged, &page, b"XAB")?, (0, 0));
+    Ok(())
 }

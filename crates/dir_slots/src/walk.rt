@@ -1,8 +1,8 @@
 // The slots of a directory one after another, out of pages that are lent.
-ghost use Rattle.std.specs.Prelude.{◌≡◌, ℕ, List, [], ◌∷◌, ◌++◌, ◌+◌, length, take};
+ghost use Rattle.std.specs.Prelude.{◌≡◌, ℕ, List, [], ◌∷◌, ◌++◌, ◌+◌, ◌≤◌, length, take};
 
 use crate::codec::{ENTRY_TYPE, slot_here};
-use crate::others::{Passing, others_end};
+use crate::others::{Passing, ending_of, other_here, others_end};
 use crate::slot::{MAX_ENTRY_WORDS, Slot};
 use std::marker::Model;
 
@@ -23,7 +23,7 @@ pub struct Walk {
     place: u32,
     /// How many words of it have come.
     held: usize,
-    /// The first of these.
+    /// The first of these; the words after them mean nothing.
     front: [u16; MAX_ENTRY_WORDS],
     /// Whether a slot was met that can't be read.
     ended: bool,
@@ -41,9 +41,10 @@ impl Model for Walk {
 }
 
 impl Walk {
-    ghost use Rattle.std.specs.Prelude.{◌≡◌, ℕ, List, [], ◌∷◌, ◌++◌, ◌+◌, ◌<◌, ◌≤◌, ◌^◌, false, IsTrue, length, take, IfSome, IfNone};
+    ghost use Rattle.std.specs.Prelude.{◌≡◌, ℕ, List, [], ◌∷◌, ◌++◌, ◌+◌, ◌<◌, ◌≤◌, ◌^◌, true, false, IsTrue, length, take, IfSome, IfNone};
     ghost use Rattle.std.specs.Option.{MatchOption};
     ghost use Rattle.pack_model.specs.reading.Slots.{item_words, slots, all_words};
+    ghost use Rattle.dir_slots.specs.Inside.{further};
     ghost use Rattle.dir_slots.specs.Items.{IsInRange, item_of};
     ghost use Rattle.dir_slots.specs.Laws.{HasStoredName};
     ghost use Rattle.dir_slots.specs.Others.{Passes};
@@ -134,8 +135,8 @@ impl Walk {
     }
 
     /// Passes over slots that end in the rest of this page and need not be met: free ones, if `passing` has these, and entries of bare
-    /// names other than the one that it names, or of all bare names. So no entry of a version is passed over. It may stop earlier, and while
-    /// a slot is in hand it passes over none. `from` is as for `next`, and goes on to the word after them.
+    /// names other than the one that it names, or of all bare names. So no entry of a version is passed over. It may stop earlier: where a
+    /// slot is in hand that isn't passed over, it passes over none. `from` is as for `next`, and goes on to the word after them.
     pub fn pass_others(&mut self, page: &[u16], from: &mut usize, passing: &Passing)
         requires within { from.old ≤ length page.now }
         requires fits { self.old.place + self.old.held + length page.now < 2 ^ 32 + from.old }
@@ -144,12 +145,61 @@ impl Walk {
         ensures within { from.new ≤ length page.now }
         ensures taken { self.new.place + self.new.held + from.old ≡ self.old.place + self.old.held + from.new }
     {
+        self.pass_hand(page, from, passing);
         if self.ended || self.held != 0 {
             return;
         }
         let at = others_end(page, *from, passing);
         self.place += (at - *from) as u32;
         *from = at;
+    }
+
+    /// Passes over the slot in hand, if one is, it has 26 words at most and ends in the rest of this page, and it need not be met, as at
+    /// `pass_others`. It may stay in hand.
+    pub(crate) fn pass_hand(&mut self, page: &[u16], from: &mut usize, passing: &Passing)
+        requires within { from.old ≤ length page.now }
+        requires fits { self.old.place + self.old.held + length page.now < 2 ^ 32 + from.old }
+        ensures passes { (given : List ℕ) → Walked (given ++ take from.old page.now) self.old → Passes passing.now (given ++ take from.old page.now) (given ++ take from.new page.now) self.new }
+        ensures on { from.old ≤ from.new }
+        ensures within { from.new ≤ length page.now }
+        ensures taken { self.new.place + self.new.held + from.old ≡ self.old.place + self.old.held + from.new }
+    {
+        if self.ended || self.held == 0 {
+            return;
+        }
+        let size = (self.front[0] % ENTRY_TYPE) as usize;
+        if size > MAX_ENTRY_WORDS || size <= self.held {
+            return;
+        }
+        let rest = size - self.held;
+        if rest > page.len() - *from {
+            return;
+        }
+        // if the slot stays in hand, the words after those that were taken mean nothing
+        hold_rest(&mut self.front, self.held, &page[*from..*from + rest]);
+        let ending = ending_of(&passing.name);
+        let Some(_) = other_here(&self.front[..size], passing, &ending) else {
+            return;
+        };
+        self.place += size as u32;
+        self.held = 0;
+        *from += rest;
+    }
+
+    /// Whether no word of a slot is in hand, and slots may follow.
+    pub(crate) fn is_between_slots(&self) -> bool
+        ensures none { result ≡ true → self.now.held ≡ 0 }
+        ensures going { result ≡ true → self.now.ended ≡ false }
+    {
+        !self.ended && self.held == 0
+    }
+
+    /// Goes on by so many words, with none in hand.
+    pub(crate) fn pass(&mut self, words: u32)
+        requires { self.old.place + words < 2 ^ 32 }
+        ensures { self.new ≡ further self.old words }
+    {
+        self.place += words;
     }
 
     /// Takes all words of a page, and passes over the slots that end in it.
@@ -211,4 +261,13 @@ fn hold(front: &mut [u16; MAX_ENTRY_WORDS], held: usize, word: u16)
     if held < MAX_ENTRY_WORDS {
         front[held] = word;
     }
+}
+
+/// Keeps the last words of a slot after the first, of which so many have come.
+fn hold_rest(front: &mut [u16; MAX_ENTRY_WORDS], held: usize, rest: &[u16])
+    requires { held + length rest.now ≤ 26 }
+    ensures all { take (held + length rest.now) front.new ≡ take held front.old ++ rest.now }
+    ensures first { take held front.new ≡ take held front.old }
+{
+    front[held..held + rest.len()].copy_from_slice(rest);
 }

@@ -22,7 +22,7 @@ ghost use Rattle.directory.specs.Visits.{Visits, ended};
 use alto_words::Memory;
 use dir_slots::{Passing, PlacedSlot, Walk};
 use disk_records::{Disk, PAGE_BYTES, Sector};
-use hint_cache::Hints;
+use hint_cache::{HintCache, Hints};
 use page_seeking::{FileError, FileRef, locate};
 
 /// What is done with each slot of a directory.
@@ -47,32 +47,45 @@ pub(crate) trait Visit {
 }
 
 /// Passes over slots of these words that the visitor need not be handed.
-fn pass_for<V: Visit>(walk: &mut Walk, words: &[u16], from: &mut usize, visitor: &V)
+fn pass_for<V: Visit>(
+    walk: &mut Walk,
+    words: &[u16],
+    from: &mut usize,
+    visitor: &V,
+    cache: &mut HintCache,
+)
     requires within { from.old ≤ length words.now }
     requires fits { walk.old.place + walk.old.held + length words.now < 2 ^ 32 + from.old }
     ensures visits { (given : List ℕ) → Walked (given ++ take from.old words.now) walk.old → Visits V.step (given ++ take from.old words.now) (given ++ take from.new words.now) walk.new visitor.now visitor.now }
     ensures on { from.old ≤ from.new }
     ensures within { from.new ≤ length words.now }
     ensures taken { walk.new.place + walk.new.held + from.old ≡ walk.old.place + walk.old.held + from.new }
+    ensures same { cache.new ≡ cache.old }
 {
     if let Some(passing) = visitor.passes() {
-        walk.pass_others(words, from, &passing);
+        cache.pass_others(walk, words, from, &passing);
     }
 }
 
 /// Hands each slot that ends in these words, the next ones of the directory, to the visitor, except slots that it need not be handed.
-fn visit_words<V: Visit>(walk: &mut Walk, words: &[u16], visitor: &mut V) -> Result<(), Memory>
+fn visit_words<V: Visit>(
+    walk: &mut Walk,
+    words: &[u16],
+    visitor: &mut V,
+    cache: &mut HintCache,
+) -> Result<(), Memory>
     requires walks { (given : List ℕ) × Walked given walk.old }
     requires fits { walk.old.place + walk.old.held + length words.now ≤ most_words }
     ensures visits { (given : List ℕ) → Walked given walk.old → OnOk result (Visits V.step given (given ++ words.now) walk.new visitor.old visitor.new) }
     ensures taken { OnOk result (walk.new.place + walk.new.held ≤ walk.old.place + walk.old.held + length words.now) }
     ensures want { OnErr result (IsTrue V.takes_memory) }
+    ensures same { cache.new ≡ cache.old }
 {
     let mut from = 0;
-    pass_for(walk, words, &mut from, visitor);
+    pass_for(walk, words, &mut from, visitor, cache);
     while let Some(met) = walk.next(words, &mut from) {
         visitor.visit(met)?;
-        pass_for(walk, words, &mut from, visitor);
+        pass_for(walk, words, &mut from, visitor, cache);
     }
     Ok(())
 }
@@ -131,7 +144,7 @@ pub(crate) fn visit_slots<D: Disk, V: Visit>(
         match locate(disk, hints, dir, full + 1, buf) {
             Ok((_, info)) => {
                 let words = &buf.value[..usize::from(info.bytes) / 2];
-                match visit_words(&mut walk, words, visitor) {
+                match visit_words(&mut walk, words, visitor, &mut hints.cache) {
                     Ok(()) => {}
                     Err(Memory) => return Err(FileError::Memory),
                 }

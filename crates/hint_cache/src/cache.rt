@@ -4,6 +4,7 @@ ghost use Rattle.hint_cache.specs.Caches.{entries_of};
 ghost use Rattle.hint_cache.specs.Highest.{highest_after};
 
 use alto_words::{Fid, Memory};
+use dir_slots::{JudgedPages, Passing, Walk};
 use disk_records::Page;
 use lru::LruCache;
 use std::alloc::Global;
@@ -22,12 +23,13 @@ pub struct Entry {
     pub at: u16,
 }
 
-/// Addresses of at most 48 pages, the most recently used first, and no two for one page. Contracts see the list of the
-/// entries and the count of refusals.
+/// Addresses of at most 48 pages, the most recently used first, and no two for one page; and what was judged of slots of
+/// directories, beside the words of their pages. Contracts see the list of the entries and the count of refusals.
 #[derive(Drop)]
 pub struct HintCache {
     pub(crate) pages: LruCache<Page, u16>,
     refused: u64,
+    judged: JudgedPages,
 }
 
 impl Model for HintCache {
@@ -42,7 +44,9 @@ impl Model for HintCache {
 }
 
 impl HintCache {
-    ghost use Rattle.std.specs.Prelude.{◌≡◌, ◌+◌, ◌^◌, ◌-◌, ◌≤◌, min, [], IfOk, IsOk, OnOk, OnErr, Some, IsSome, IfSome, IfNone};
+    ghost use Rattle.std.specs.Prelude.{◌≡◌, ℕ, List, ◌+◌, ◌^◌, ◌-◌, ◌<◌, ◌≤◌, ◌++◌, length, take, min, [], IfOk, IsOk, OnOk, OnErr, Some, IsSome, IfSome, IfNone};
+    ghost use Rattle.dir_slots.specs.Others.{Passes};
+    ghost use Rattle.dir_slots.specs.Walks.{Walked};
     ghost use Rattle.hint_cache.specs.Caches.{Cached, IsCacheList, address_in, without, noted, NoneListed, IsHighestBelow};
 
     /// A cache without entries. Memory: none was left for its map.
@@ -53,6 +57,7 @@ impl HintCache {
         Ok(HintCache {
             pages: LruCache::new(alloc, capacity)?,
             refused: 0,
+            judged: JudgedPages::new(alloc),
         })
     }
 
@@ -128,6 +133,28 @@ impl HintCache {
         ensures kept { IsCacheList self.now.entries }
     {
         highest_of(&self.pages, fid, number)
+    }
+
+    /// Has a walk over a directory's slots pass over those that need not be met, as `dir_slots::Walk::pass_others` does. What is
+    /// judged of slots is kept with the words of their pages, which is no hint, and used where the very same words are met again.
+    pub fn pass_others(
+        &mut self,
+        walk: &mut Walk,
+        page: &[u16],
+        from: &mut usize,
+        passing: &Passing,
+    )
+        requires within { from.old ≤ length page.now }
+        requires fits { walk.old.place + walk.old.held + length page.now < 2 ^ 32 + from.old }
+        ensures passes { (given : List ℕ) → Walked (given ++ take from.old page.now) walk.old → Passes passing.now (given ++ take from.old page.now) (given ++ take from.new page.now) walk.new }
+        ensures on { from.old ≤ from.new }
+        ensures within { from.new ≤ length page.now }
+        ensures taken { walk.new.place + walk.new.held + from.old ≡ walk.old.place + walk.old.held + from.new }
+        ensures same { self.new ≡ self.old }
+        ensures kept { IsCacheList self.new.entries }
+        ensures grows { self.old.refused ≤ self.new.refused }
+    {
+        self.judged.pass_others(walk, page, from, passing);
     }
 }
 

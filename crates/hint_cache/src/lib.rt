@@ -2,8 +2,8 @@
 //!
 //! Come here when you follow an address that was noted, note one, or keep the table of busy bits.
 //!
-//! Below it stand alto_words, disk_records and the library `lru`, which keeps the entries of a cache. Nothing here is read from
-//! a disk or written to one. A `HintCache` is seen as the list of its entries, the most recently used first, and a count of
+//! Below it stand alto_words, disk_records, dir_slots and the library `lru`, which keeps the entries of a cache. Nothing here is
+//! read from a disk or written to one. A `HintCache` is seen as the list of its entries, the most recently used first, and a count of
 //! refusals; a `BitTable` as a list of bits, one a sector, in which true is busy. To the layers above:
 //! 1. A cache has at most 48 entries, and no two for one page (`kept`).
 //! 2. `note` puts its entry in front and drops the last of 49 (`ok`); `recall` brings what it answers to the front (`some`), and
@@ -14,6 +14,8 @@
 //! 4. `to_words` gives a cache as 241 words (`words`), which read back as its list (`reads_back`); `from_words` takes any words
 //!    (`entries`), and words of ones list no file (`ones_name_no_file`).
 //! 5. Any words make a table; `word` gives a table's words, and each of their bits is the table's (`reads_back`).
+//! 6. `pass_others` has a walk pass over slots of a directory that need not be met, as dir_slots promises it (`passes`), and changes
+//!    nothing that is seen of a cache (`same`). What it keeps is no hint: the words of a page that it goes by are given with each call.
 //! Not promised: that a hint is true. Who follows one checks it by the label that stands there.
 #![tactic(auto)]
 

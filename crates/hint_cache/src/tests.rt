@@ -1,6 +1,7 @@
 // Entries around the 48th, words made by hand, and each call that takes memory once with enough of it.
 use crate::{BitTable, HintCache, Hints};
 use alto_words::{Fid, Memory};
+use dir_slots::{Passing, Walk};
 use disk_records::Page;
 use std::test::Fail;
 
@@ -108,6 +109,32 @@ fn a_cache_of_any_words(rt: HostRuntime) -> Result<(), Fail> {
     let mut twice = HintCache::from_words(rt.alloc(), &words)?;
     assert_eq!(rt; twice.recall(page(1)), Some(101));
     assert_eq!(rt; twice.to_words()[0], 1);
+    Ok(())
+}
+
+#[test]
+fn slots_are_judged_by_their_words(rt: HostRuntime) -> Result<(), Fail> {
+    // a free slot, the entry of A, and one of A!2
+    let mut page = [0; 256];
+    page[0] = 5;
+    page[5..13].copy_from_slice(&[1032, 0, 3, 1, 0, 5, 577, 11776]);
+    page[13..22].copy_from_slice(&[1033, 0, 3, 1, 0, 5, 0x0441, 0x2132, 0x2E00]);
+    let bare = Passing {
+        free: true,
+        name: None,
+    };
+    let mut cache = HintCache::new(rt.alloc())?;
+    for _ in 0..3 {
+        let (mut walk, mut from) = (Walk::new(), 0);
+        cache.pass_others(&mut walk, &page, &mut from, &bare);
+        assert_eq!(rt; from, 13);
+        assert_eq!(rt; walk.place(), 13);
+    }
+    // A!2 comes in the place of A
+    page[5..14].copy_from_slice(&[1033, 0, 3, 1, 0, 5, 0x0441, 0x2132, 0x2E00]);
+    let (mut walk, mut from) = (Walk::new(), 0);
+    cache.pass_others(&mut walk, &page, &mut from, &bare);
+    assert_eq!(rt; from, 5);
     Ok(())
 }
 

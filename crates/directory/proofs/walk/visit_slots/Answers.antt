@@ -1,4 +1,4 @@
-use Rattle.std.proofs.Common.{◌≡◌, ◌+◌, ◌/◌, ◌∙◌, Err, [], ℕ, Some, inl, inr, refl, sym, take, ap, subst, arith}
+use Rattle.std.proofs.Common.{◌≡◌, ◌≤◌, ◌⊎◌, ◌+◌, ◌/◌, ◌∙◌, Err, [], ℕ, Some, inl, inr, refl, sym, take, ap, subst, arith}
 use Rattle.std.specs.List.{FoldsTo}
 use Rattle.disk_records.proofs.Looking.{looks_none, looks_pack, looks_twice}
 use Rattle.disk_records.specs.Packs.{Pack, carried}
@@ -8,14 +8,15 @@ use Rattle.file_pages.specs.label_check.specs.declared.errors.PageInfo.{PageInfo
 use Rattle.pack_model.specs.hints.Links.{LinksTrue, dir_slots}
 use Rattle.pack_model.specs.hints.Misled.{IsOnDisk}
 use Rattle.page_seeking.specs.Refs.{FileIsFrom, FileIsRooted, FileStands, IfBeyond, IsOwnHint, MisledBy}
-use Rattle.page_seeking.specs.Seeking.{IsEnd, Quick, Stands, page_number}
+use Rattle.page_seeking.specs.Parts.{IsListed}
+use Rattle.page_seeking.specs.Seeking.{IsEnd, KeepsHandy, Quick, Refused, Stands, page_number}
 use Rattle.page_seeking.proofs.Erring.{if_misled_map}
 use Rattle.page_seeking.proofs.Listing.{is_listed, listed_since}
 use Rattle.page_seeking.proofs.Parting.{few_bytes}
 use Rattle.page_seeking.proofs.Seeking.{misled_before}
 use Rattle.directory.specs.Found.{IsQuick, ListsLastPage}
 use Rattle.directory.proofs.Paging.{ends_full, take_short, visited_all, visited_none}
-use Rattle.directory.proofs.Quickly.{ahead_first, handy_twice}
+use Rattle.directory.proofs.Quickly.{IsAhead, ahead_first, handy_twice}
 use Rattle.directory.proofs.Standing.{once_of_whole}
 use Rattle.directory.proofs.Walking.{ended_cause, ended_memory, ended_misled, ended_within, last_number, ok_of_beyond, page_last, page_more, quick_end, quick_last, quick_more}
 use Rattle.directory.proofs.walk.visit_slots.Goals as goal
@@ -47,13 +48,17 @@ pub returns-in-Err-visit_words-clause-looks : goal.returns-in-Err-visit_words-cl
 returns-in-Err-visit_words-clause-looks g c = looks_twice _ c.loop-full.invariant.looks c.locate.ensures.looks (omega arith)
 
 pub returns-in-Err-visit_words-clause-handy : goal.returns-in-Err-visit_words-clause-handy
-returns-in-Err-visit_words-clause-handy g c = λ told. handy_twice (pack (g.D.Tape.tape c.args.disk.now)) (pack (g.D.Tape.tape c.loop-full.disk)) c.args.hints.now.cache c.loop-full.hints.cache c.locate.new.hints.cache (looks_pack c.loop-full.invariant.looks told) (c.loop-full.invariant.handy told) (c.locate.ensures.handy told)
+returns-in-Err-visit_words-clause-handy g c = λ told.
+    subst (λ (k : Cached). KeepsHandy (pack (g.D.Tape.tape c.args.disk.now)) c.args.hints.now.cache k) (sym c.visit_words.ensures.same)
+    (handy_twice (pack (g.D.Tape.tape c.args.disk.now)) (pack (g.D.Tape.tape c.loop-full.disk)) c.args.hints.now.cache c.loop-full.hints.cache c.locate.new.hints.cache (looks_pack c.loop-full.invariant.looks told) (c.loop-full.invariant.handy told) (c.locate.ensures.handy told))
 
 pub returns-then-info-ne-PAGE_BYTES-clause-looks : goal.returns-then-info-ne-PAGE_BYTES-clause-looks
 returns-then-info-ne-PAGE_BYTES-clause-looks g c = looks_twice _ c.loop-full.invariant.looks c.locate.ensures.looks (omega arith)
 
 pub returns-then-info-ne-PAGE_BYTES-clause-handy : goal.returns-then-info-ne-PAGE_BYTES-clause-handy
-returns-then-info-ne-PAGE_BYTES-clause-handy g c = λ told. handy_twice (pack (g.D.Tape.tape c.args.disk.now)) (pack (g.D.Tape.tape c.loop-full.disk)) c.args.hints.now.cache c.loop-full.hints.cache c.locate.new.hints.cache (looks_pack c.loop-full.invariant.looks told) (c.loop-full.invariant.handy told) (c.locate.ensures.handy told)
+returns-then-info-ne-PAGE_BYTES-clause-handy g c = λ told.
+    subst (λ (k : Cached). KeepsHandy (pack (g.D.Tape.tape c.args.disk.now)) c.args.hints.now.cache k) (sym c.visit_words.ensures.same)
+    (handy_twice (pack (g.D.Tape.tape c.args.disk.now)) (pack (g.D.Tape.tape c.loop-full.disk)) c.args.hints.now.cache c.loop-full.hints.cache c.locate.new.hints.cache (looks_pack c.loop-full.invariant.looks told) (c.loop-full.invariant.handy told) (c.locate.ensures.handy told))
 
 pub returns-then-info-ne-PAGE_BYTES-clause-visited : goal.returns-then-info-ne-PAGE_BYTES-clause-visited
 returns-then-info-ne-PAGE_BYTES-clause-visited g c = λ told found.
@@ -74,10 +79,11 @@ returns-then-info-ne-PAGE_BYTES-clause-quick g c = λ told quick.
     let same = looks_pack inv.looks told in
     let once = once_of_whole (pack old) quick.whole in
     let stands = subst (λ (q : Pack). Stands q (page_number f (c.loop-full.full + 1)) c.in-Ok.field-0-0 c.locate.new.buf) same (c.in-Ok.ensures.stands told) in
-    quick_last (pack old) f c.loop-full.full c.in-Ok.field-0-0 here.form c.in-Ok.info c.locate.new.buf once c.in-Ok.ensures.seen stands c.args.hints.now.cache c.loop-full.hints.cache c.locate.new.hints.cache old here (g.D.Tape.tape c.locate.new.disk) (inv.ahead told quick) c.locate.ensures.refused
+    subst (λ (k : Cached). IsQuick (pack old) f c.args.hints.now.cache k old (g.D.Tape.tape c.locate.new.disk)) (sym c.visit_words.ensures.same)
+    (quick_last (pack old) f c.loop-full.full c.in-Ok.field-0-0 here.form c.in-Ok.info c.locate.new.buf once c.in-Ok.ensures.seen stands c.args.hints.now.cache c.loop-full.hints.cache c.locate.new.hints.cache old here (g.D.Tape.tape c.locate.new.disk) (inv.ahead told quick) c.locate.ensures.refused
     (λ first. c.in-Ok.ensures.quick told (subst (λ (q : Pack). Quick q f c.loop-full.hints.cache) (sym same) (subst (λ (k : Cached). Quick (pack old) f k) (sym first) quick)))
     (λ i listed carries. c.locate.ensures.soon i told listed (subst (λ (q : Pack). carried q i ≡ Some (page_number f (c.loop-full.full + 1))) (sym same) carries))
-    (inv.visited told once).before c.if-info-ne-PAGE_BYTES.true
+    (inv.visited told once).before c.if-info-ne-PAGE_BYTES.true)
 
 pub returns-in-Err-clause-visited : goal.returns-in-Err-clause-visited
 returns-in-Err-clause-visited g c = λ told found.
@@ -127,11 +133,12 @@ returns-then-info-ne-PAGE_BYTES-clause-listed g c = λ told found.
     let p = pack (g.D.Tape.tape c.args.disk.now) in
     let f = c.args.dir.now.fid in
     let stands = subst (λ (q : Pack). Stands q (page_number f (c.loop-full.full + 1)) c.in-Ok.field-0-0 c.locate.new.buf) (looks_pack inv.looks told) (c.in-Ok.ensures.stands told) in
-    record {
+    subst (λ (k : Cached). ListsLastPage g.D.Tape.told p f c.args.hints.now.cache k) (sym c.visit_words.ensures.same)
+    (record {
       number = c.loop-full.full + 1;
       is = inl (last_number p f c.loop-full.full c.in-Ok.field-0-0 (g.D.Tape.tape c.loop-full.disk).form c.in-Ok.info c.locate.new.buf found.once c.in-Ok.ensures.seen stands (inv.visited told found.once).before c.if-info-ne-PAGE_BYTES.true);
       listed = listed_since c.args.hints.now.cache c.loop-full.hints.cache c.locate.new.hints.cache c.loop-full.invariant.looks c.loop-full.invariant.refused (is_listed g.D.Tape.told (pack (g.D.Tape.tape c.loop-full.disk)) c.in-Ok.ensures.listed (λ told. (c.in-Ok.ensures.stands told).carries));
-    }
+    })
 
 pub returns-clause-listed : goal.returns-clause-listed
 returns-clause-listed g c = λ told found.
@@ -177,26 +184,29 @@ loop-full-preserved g c =
     let few = few_bytes c.in-Ok.ensures.seen in
     let same_bytes = c.from.ensures in
     let taken = c.in-Ok-visit_words.ensures.taken in
+    let kept = sym c.visit_words.ensures.same in
     record {
       walks = let w = inv.walks in (_, (c.in-Ok-visit_words.ensures.visits w.0 w.1).walked);
       taken = let more = take_short (c.from.result / 2) c.locate.new.buf.value in let before = inv.taken in omega (arith, before, taken, more, few, same_bytes);
       looks = looks_twice _ inv.looks c.locate.ensures.looks (omega arith);
       table = c.locate.ensures.table ∙ inv.table;
-      refused = let a = inv.refused in let b = c.locate.ensures.refused in omega (arith, a, b);
-      handy = λ told. handy_twice p (pack here) c.args.hints.now.cache c.loop-full.hints.cache c.locate.new.hints.cache (looks_pack inv.looks told) (inv.handy told) (c.locate.ensures.handy told);
+      refused = let a = inv.refused in let b = c.locate.ensures.refused in subst (λ (k : Cached). c.args.hints.now.cache.refused ≤ k.refused) kept (omega (arith, a, b));
+      handy = λ told. subst (λ (k : Cached). KeepsHandy p c.args.hints.now.cache k) kept (handy_twice p (pack here) c.args.hints.now.cache c.loop-full.hints.cache c.locate.new.hints.cache (looks_pack inv.looks told) (inv.handy told) (c.locate.ensures.handy told));
       visited = λ told once.
           let stands = subst (λ (q : Pack). Stands q (page_number f (k + 1)) c.in-Ok.field-0-0 c.locate.new.buf) (looks_pack inv.looks told) (c.in-Ok.ensures.stands told) in
           page_more p f k c.in-Ok.field-0-0 here.form c.in-Ok.info c.locate.new.buf once c.in-Ok.ensures.seen stands g.V.Visit.step _ c.loop-full.walk c.visit_words.new.walk c.args.visitor.now c.loop-full.visitor c.visit_words.new.visitor
           (ap (λ n. take (n / 2) c.locate.new.buf.value) c.from.ensures) (inv.visited told once) c.in-Ok-visit_words.ensures.visits c.if-info-ne-PAGE_BYTES.false;
-      listed = λ some. listed_since c.args.hints.now.cache c.loop-full.hints.cache c.locate.new.hints.cache c.loop-full.invariant.looks c.loop-full.invariant.refused (is_listed g.D.Tape.told (pack (g.D.Tape.tape c.loop-full.disk)) c.in-Ok.ensures.listed (λ told. (c.in-Ok.ensures.stands told).carries));
+      listed = λ some. subst (λ (x : Cached). IsListed g.D.Tape.told p (page_number f (k + 1)) x ⊎ Refused c.args.hints.now.cache x) kept
+          (listed_since c.args.hints.now.cache c.loop-full.hints.cache c.locate.new.hints.cache c.loop-full.invariant.looks c.loop-full.invariant.refused (is_listed g.D.Tape.told (pack (g.D.Tape.tape c.loop-full.disk)) c.in-Ok.ensures.listed (λ told. (c.in-Ok.ensures.stands told).carries)));
       ahead = λ told quick.
           let same = looks_pack inv.looks told in
           let once = once_of_whole p quick.whole in
           let stands = subst (λ (q : Pack). Stands q (page_number f (k + 1)) c.in-Ok.field-0-0 c.locate.new.buf) same (c.in-Ok.ensures.stands told) in
-          quick_more p f k c.in-Ok.field-0-0 here.form c.in-Ok.info c.locate.new.buf once c.in-Ok.ensures.seen stands c.args.hints.now.cache c.loop-full.hints.cache c.locate.new.hints.cache old here (g.D.Tape.tape c.locate.new.disk) (inv.ahead told quick) c.locate.ensures.refused
+          subst (λ (x : Cached). IsAhead p f (k + 1 + 1) c.args.hints.now.cache x old (g.D.Tape.tape c.locate.new.disk)) kept
+          (quick_more p f k c.in-Ok.field-0-0 here.form c.in-Ok.info c.locate.new.buf once c.in-Ok.ensures.seen stands c.args.hints.now.cache c.loop-full.hints.cache c.locate.new.hints.cache old here (g.D.Tape.tape c.locate.new.disk) (inv.ahead told quick) c.locate.ensures.refused
           (λ first. c.in-Ok.ensures.quick told (subst (λ (q : Pack). Quick q f c.loop-full.hints.cache) (sym same) (subst (λ (x : Cached). Quick p f x) (sym first) quick)))
           (λ i listed carries. c.locate.ensures.soon i told listed (subst (λ (q : Pack). carried q i ≡ Some (page_number f (c.loop-full.full + 1))) (sym same) carries))
-          quick.whole quick.links c.if-info-ne-PAGE_BYTES.false inv.refused (sym inv.looks.alone.grown.form) c.in-Ok.ensures.listed;
+          quick.whole quick.links c.if-info-ne-PAGE_BYTES.false inv.refused (sym inv.looks.alone.grown.form) c.in-Ok.ensures.listed);
     }
 
 pub returns-clause-visited : goal.returns-clause-visited

@@ -16,6 +16,7 @@ loop-met-init g c =
       visits = λ given walked.
           subst (λ l. Visits g.V.Visit.step l (given ++ take c.pass_for.new.from words) c.pass_for.new.walk c.args.visitor.now c.args.visitor.now) (append-nil given)
           (c.pass_for.ensures.visits given (subst (λ l. Walked l c.args.walk.now) (sym (append-nil given)) walked));
+      same = c.pass_for.ensures.same;
     }
 
 pub visit-requires-clause-within : goal.visit-requires-clause-within
@@ -42,6 +43,7 @@ loop-met-preserved g c =
           let before = inv.visits given walked in
           let met = visits_next g.V.Visit.step given _ _ c.loop-met.walk c.next.new.self c.args.visitor.now c.loop-met.visitor c.visit.new.self c.in-Some.met before (next.meets given before.walked) c.in_ok-visit.ensures.step in
           visits_on g.V.Visit.step given (given ++ take c.next.new.from words) (given ++ take c.pass_for-in-Some.new.from words) c.next.new.self c.pass_for-in-Some.new.walk c.args.visitor.now c.visit.new.self c.visit.new.self met (pass.visits given met.walked);
+      same = pass.same ∙ inv.same;
     }
 
 pub returns-clause-visits : goal.returns-clause-visits
