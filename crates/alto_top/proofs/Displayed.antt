@@ -54,7 +54,7 @@ pub answers_on : (words : List (List ℕ)) (disks : ℕ) (a b : Taped) (meant an
 answers_on words disks a b meant answer answers same =
     elim same [
       | inl is ↦ subst (AnswersTo words disks) (sym is) answers
-      | inr failed ↦ subst (AnswersTo words disks) (sym failed.0) (unseen_answers words disks)
+      | inr failed ↦ subst (AnswersTo words disks) (sym failed.fault) (unseen_answers words disks)
     ]
 
 -- ---- how it ends
@@ -85,9 +85,9 @@ concludes_on A B C a b c meant answer one two ends same keeps shown =
       }
       | inr failed ↦
           let less = one.show_faults in
-          let rose = failed.1 in
+          let rose = failed.rose in
           record {
-            cause = subst (HasStatusCause a c) (sym failed.0) (omega (arith, less, rose));
-            handed_on = subst (λ s. UnlessStopped s (B × C)) (sym failed.0) tt;
+            cause = subst (HasStatusCause a c) (sym failed.fault) (omega (arith, less, rose));
+            handed_on = subst (λ s. UnlessStopped s (B × C)) (sym failed.fault) tt;
           }
     ]

@@ -27,9 +27,15 @@ abbrev pub fault_of_format : FormatError → Fault
 fault_of_format formatting.DiskFault = Disk
 fault_of_format formatting.Memory = Memory
 
--- what is answered once the display has all that was shown: the answer meant, or where that failed a fault of the display
+-- a fault of the display is answered, which failed since, where neither a fault nor out of memory was meant
+pub record IsUnseen (old new : Taped) (meant answer : Status) : Type 0 where
+  pub going : UnlessStopped meant ⊥ → ⊥
+  pub fault : answer ≡ DisplayFault
+  pub rose : Rose old.show_faults new.show_faults
+
+-- what is answered once the display has all that was shown: the answer meant, or a fault of the display
 abbrev pub IsSameOrUnseen : Taped → Taped → Status → Status → Type 0
-IsSameOrUnseen old new meant answer = (answer ≡ meant) ⊎ ((answer ≡ DisplayFault) × Rose old.show_faults new.show_faults)
+IsSameOrUnseen old new meant answer = (answer ≡ meant) ⊎ IsUnseen old new meant answer
 
 -- How what was asked for ends: a fault is answered only where the count of its device rose, or stands at its end; and unless a fault or out
 -- of memory is answered, this holds of the machine as it is left: nothing is held back.

@@ -53,7 +53,7 @@ fn format_disk<D: Disk>(
 
 /// Formats the pack, whatever stands on it, and shows how many of its sectors are free. `number` is the pack's number; `moment` is the
 /// time now, in seconds since the start of 1901, which the leaders of both system files have as their dates. No key is taken. One sector
-/// command a sector at most.
+/// command a sector at most. The machine may hold the text back until `flush_display`.
 ///
 /// DiskFault: a sector may not be written; nothing is shown, and the pack is to be formatted again. DisplayFault: the display failed; the
 /// pack is formatted, and a prefix of the text is shown. Memory: none was left; nothing is shown, and the pack is to be formatted

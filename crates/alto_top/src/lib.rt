@@ -38,6 +38,6 @@ mod top;
 pub use formatting::format_pack;
 pub use preparing::prepare_pack;
 pub use scavenging::scavenge_pack;
-pub use session_boot::{Fault, Status, boot};
+pub use session_boot::{Fault, Status, boot, flush_display};
 pub use show::show_pack;
 pub use top::alto;

@@ -49,7 +49,7 @@ fn prepare_disk<D: Disk>(alloc: Global, disk: &mut D, number: u16) -> Result<Vec
 
 /// Prepares the second drive of a pack of two: each of its sectors becomes a free one; and shows how many there are. `number` is the pack's
 /// number. Where no sector of the drive carries a page, the pack shows at each crash point what it showed before. No key is taken. Two
-/// sector commands a sector of the drive at most.
+/// sector commands a sector of the drive at most. The machine may hold the text back until `flush_display`.
 ///
 /// DiskFault: a sector may not be written; nothing is shown, and the drive is to be prepared again. DisplayFault: the display failed; the
 /// drive is prepared, and a prefix of the text is shown. Memory: none was left; nothing is shown, and the drive is to be prepared again.

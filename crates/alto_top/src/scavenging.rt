@@ -102,7 +102,8 @@ fn scavenge_disk<D: Disk>(alloc: Global, disk: &mut D) -> Result<Told, Fault>
 
 /// Scavenges the pack, whatever stands on it, and shows the report: the living files, the sectors that were freed, the bad ones, and the files
 /// that got a name. Then the pack is sound and clean, with all its hints true. Where it can't be scavenged it shows why instead. What the pack
-/// shows stays at each crash point, and a scavenge that stopped can be done again. No key is taken.
+/// shows stays at each crash point, and a scavenge that stopped can be done again. No key is taken. The machine may hold the text back until
+/// `flush_display`.
 ///
 /// CannotScavenge: the pack is refused, and nothing was written. DiskFault: the disk failed; nothing is shown. DisplayFault: the display failed;
 /// the pack is scavenged or refused, and a prefix of the text is shown. Memory: none was left, before the scavenge was done or for the text;

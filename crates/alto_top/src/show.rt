@@ -33,7 +33,7 @@ fn list_pack<D: Disk>(alloc: Global, disk: &mut D) -> Result<Vec<u8>, Fault>
 }
 
 /// Shows what the pack shows, whatever stands on it: a line for each name, SysDir's first, and then the number of files. No key is
-/// taken and nothing is written. Fewer sector commands than sectors.
+/// taken and nothing is written. Fewer sector commands than sectors. The machine may hold the listing back until `flush_display`.
 ///
 /// DiskFault: the disk failed; nothing is shown. DisplayFault: the display failed; a prefix of the listing is shown.
 /// Memory: none was left; nothing is shown. Usage and KeyFault are never answered.

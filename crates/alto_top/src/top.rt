@@ -150,8 +150,8 @@ fn do_asked<M: Machine>(alloc: Global, words: &[String], moment: u32, machine: &
 
 /// Does what the words of a command line ask for on this machine. The words are `boot`, `show` or `scavenge` alone, or `format` or `prepare`
 /// and the pack's number, 1 to 65,535; with any others, and with `prepare` on one drive, `usage` is shown and nothing else happens. `moment`
-/// is the time now, in seconds since the start of 1901. The machine holds no record write back, as a new one; and neither a
-/// record write nor any byte that was shown at the end, unless a fault or out of memory is answered.
+/// is the time now, in seconds since the start of 1901. The machine holds no record write back when it comes, as a new one doesn't. At the
+/// end it holds back neither a record write nor a byte that was shown, unless a fault or out of memory is answered.
 ///
 /// Done: the session was ended, the listing was shown, the pack was scavenged or formatted, or its second drive prepared. Usage: the
 /// words are others, or `prepare` on one drive, and `usage` was shown. NeedsScavenge: of `boot` alone; the pack isn't entered, or a

@@ -1,5 +1,5 @@
 -- What is kept in memory of the sectors of a pack.
-use Rattle.std.specs.Prelude.{Bool, ◌≡◌, ◌≢◌, ℕ, ◌+◌, ◌*◌, ◌/◌, ◌%◌, ◌==◌, ◌<◌, ◌≤◌, cond, List, length, take, drop, get_or, Option, Some, None, Result, Ok, IfSome, IfNone, IfOk, IsOk, OnErr, vec_len, vec_capacity}
+use Rattle.std.specs.Prelude.{Bool, ◌≡◌, ◌≢◌, ℕ, ◌+◌, ◌*◌, ◌/◌, ◌%◌, ◌==◌, ◌<◌, ◌≤◌, cond, List, length, take, drop, get_or, Option, Some, None, Result, Ok, IfSome, IfNone, IfOk, IsOk, OnOk, OnErr, vec_len, vec_capacity}
 use Rattle.std.specs.Io.KnownBytes.{Consumes}
 use Rattle.disk_records.specs.declared.records.Act.TheVariants.{Write}
 use Rattle.disk_records.specs.declared.records.Plan.{Plan}
@@ -76,6 +76,14 @@ pub record ReadsKept {E : Type 0} (at : ℕ) (plan : Plan) (memory buffer : Sect
   pub compared : IfSome (kept_at old at) (λ sector. result ≡ Ok (mismatch plan memory sector))
   pub read : IfSome (kept_at old at) (λ sector. mismatch plan memory sector ≡ None → buffer ≡ memory_after plan memory sector)
   pub same : IfOk result (λ found. IfNone found (plan.value ≢ Write → IfSome (kept_at new at) (λ sector. sector ≡ buffer)))
+  pub forgotten : OnErr result (kept_at new at ≡ None)
+  pub others : NoOtherChanges (at / 24) old new
+
+-- The reading of a whole sector that may be kept. What was kept is no fault, and memory then gets it. What is kept afterwards is what
+-- memory holds. After an error the sector isn't kept.
+pub record LooksKept {E : Type 0} (at : ℕ) (buffer : Sector) (old new : KeptSectors) (result : Result (Unit {0}) E) : Type 0 where
+  pub read : IfSome (kept_at old at) (λ sector. IsOk result × (buffer ≡ sector))
+  pub same : OnOk result (IfSome (kept_at new at) (λ sector. sector ≡ buffer))
   pub forgotten : OnErr result (kept_at new at ≡ None)
   pub others : NoOtherChanges (at / 24) old new
 

@@ -1,11 +1,14 @@
 -- What a caller sees of the machine over a pack file, or two.
-use Rattle.std.specs.Prelude.{◌≡◌, ◌≢◌, ℕ, ◌+◌}
+use Rattle.std.specs.Prelude.{◌≡◌, ◌≢◌, ℕ, ◌+◌, ◌≤◌, length, Option, None, IfSome}
+use Rattle.std.specs.Io.Buffered.{reader_buffer}
+use Rattle.std.specs.declared.io.buffered.BufReader.{BufReader}
 use Rattle.disk_records.specs.Tapes.{Taped, capped}
 use Rattle.disk_image.specs.declared.error.ImageError.{ImageError}
 use Rattle.disk_image.specs.declared.error.ImageError.TheVariants as image
 use Rattle.disk_image.specs.declared.error.ReachError.{ReachError}
 use Rattle.disk_image.specs.declared.error.ReachError.TheVariants.{NoFile, BadLength, Unlike, Memory}
 use Rattle.disk_image.specs.Images.{IsPackLength}
+use Rattle.disk_image.specs.declared.placed.Placed.{Placed}
 
 -- nothing has failed and nothing was written
 pub record IsUntouched (t : Taped) : Type 0 where
@@ -45,3 +48,12 @@ abbrev pub reached : ImageError → ReachError
 reached (image.BadLength bytes) = BadLength bytes
 reached (image.Unlike first second) = Unlike first second
 reached image.Memory = Memory
+
+-- of the keys that were read ahead none but those after the last line end are left, which are so many
+abbrev pub HasNoLine : {R A : Type 0} → ℕ → BufReader R A → Type 0
+HasNoLine after keys = length (reader_buffer keys) ≤ after
+
+-- the length of neither file is known
+pub record KnowsNoLength {F : Type 0} (first : Placed F) (second : Option (Placed F)) : Type 0 where
+  pub first_unknown : first.known_length ≡ None
+  pub second_unknown : IfSome second (λ file. file.known_length ≡ None)

@@ -9,15 +9,17 @@ held_text texts = texts.buffer.items
 abbrev pub HoldsNoText : HeldTexts → Type 0
 HoldsNoText texts = held_text texts ≡ []
 
--- there is room for so many bytes behind those that are held
-abbrev pub FitsBehind : ℕ → HeldTexts → Type 0
-FitsBehind count texts = vec_len texts.buffer + count ≤ vec_capacity texts.buffer
+-- there is room for so many bytes after those that are held
+abbrev pub FitsAfter : ℕ → HeldTexts → Type 0
+FitsAfter count texts = vec_len texts.buffer + count ≤ vec_capacity texts.buffer
 
 -- there isn't
 abbrev pub IsTooLong : ℕ → HeldTexts → Type 0
 IsTooLong count texts = vec_capacity texts.buffer < vec_len texts.buffer + count
 
--- A text is taken for the display. Where there is room for it, it is held behind what is held. Else what is held goes ahead, and the text
+-- A text is taken for the display. Where there is room for it, it is held after what is held. Else what is held goes ahead, and the text
 -- alone is held; or nothing is, and it was written at once: where there is no room for it alone.
 abbrev pub TakesText : List ℕ → HeldTexts → HeldTexts → Type 0
-TakesText text old new = (FitsBehind (length text) old × (held_text new ≡ held_text old ++ text)) ⊎ (IsTooLong (length text) old × ((held_text new ≡ text) ⊎ (IsTooLong (length text) new × HoldsNoText new)))
+TakesText text old new =
+    (FitsAfter (length text) old × (held_text new ≡ held_text old ++ text))
+    ⊎ (IsTooLong (length text) old × ((held_text new ≡ text) ⊎ (IsTooLong (length text) new × HoldsNoText new)))

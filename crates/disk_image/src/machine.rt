@@ -26,18 +26,19 @@
 // stand in the order of the file, which needn't be that of the commands. Nothing is synced to the device, so a power failure may leave
 // less; and a machine that is dropped without a flush takes along what it holds back.
 //
-// Before the first write call after a flush the file's length is asked for, by a seek to its end; the write calls up to the next flush go by
-// the length that was answered, so a session asks once for each typed line that writes a file. No write makes the file longer, unless
-// another process shortens the file after the question: the time in which it can is that from the question to the last write call before
-// the next flush. Where the file is too short by that length, or the call fails, the command fails in which that was tried, or the flush;
-// what is held back stays so and is tried again first, so nothing goes ahead of it, and the length is asked for again. So it is after a
-// read call that is short.
+// The file's length is asked for before its first write call, by a seek to its end; the write calls that follow go by the length that was
+// answered. It is asked for again after a flush, unless a line that was read ahead is there whole then, and after a read of keys that
+// weren't read ahead: so a session asks once for all lines whose keys were read together. No write makes the file longer, unless another
+// process shortens the file after the question: the time in which it can is that from the question to the last write call that goes by it.
+// Where the file is too short by that length, or the call fails, the command fails in which that was tried, or the flush; what is held back
+// stays so and is tried again first, so nothing goes ahead of it, and the length is asked for again. So it is after a read call that is
+// short.
 //
 // Keys are read ahead. Those of one line that were are taken at once, and none past the line's end (`read_piece`). Whether the end of a
 // line is among them is known by one search after each read call that brought keys (`has_line`).
 //
-// Texts that are shown are held back, one behind the other, in memory for 4,096 bytes (texts.rt). They are handed on to the display by one
-// write call at `flush_display`, and before a text for which there is no room behind them; that text is then held. One of more than 4,096
+// Texts that are shown are held back, one after the other, in memory for 4,096 bytes (texts.rt). They are handed on to the display by one
+// write call at `flush_display`, and before a text for which there is no room after them; that text is then held. One of more than 4,096
 // bytes is written at once, by a call of its own, after those that were held. Where no memory was left to hold texts, each is written at
 // once. The record writes that were handed on before a text was shown stand in the files before anyone sees it. After a call that fails
 // nothing is held any more, and no byte is handed on again: the display may have some of them. A machine that is dropped without
@@ -90,8 +91,8 @@ pub struct FileMachine<'a, R: Files + Input + Print> {
     cylinder: Vec<u8>,
     // standard input, read ahead, so that few calls of the outside bring many keys
     keys: BufReader<R::Reader>,
-    // how many of the keys that were read ahead last stand behind the last line end among them: all of them where none ends a line
-    keys_behind: usize,
+    // how many of the keys that were read ahead last stand after the last line end among them: all of them where none ends a line
+    keys_after: usize,
     // what was shown and the display doesn't have yet
     texts: HeldTexts,
     // record writes of the commands that did all of theirs
@@ -122,7 +123,8 @@ where
     ghost use Rattle.disk_records.specs.Addresses.{pages_of};
     ghost use Rattle.disk_records.specs.Checks.{is_legal, is_checked};
     ghost use Rattle.disk_records.specs.Tapes.{DiskAlone, IfMismatch, Ran, Rose};
-    ghost use Rattle.disk_image.specs.Machines.{CountsFault};
+    ghost use Rattle.disk_image.specs.Kept.{LooksKept};
+    ghost use Rattle.disk_image.specs.Machines.{CountsFault, HasNoLine, KnowsNoLength};
     ghost use Rattle.disk_image.specs.Records.{writes_after_all};
 
     fn shape(&self) -> Shape {
@@ -157,8 +159,29 @@ where
         }
     }
 
+    /// A sector that is kept is copied to `buf` at once, and is no fault. It takes no memory.
+    fn read_sector(&mut self, at: u16, buf: &mut Sector) -> Result<(), DiskError>
+        requires place { at < pages_of (⟦<FileMachine<'a, R> as Tape>⟧.tape self.old).form }
+        ensures alone { DiskAlone (⟦<FileMachine<'a, R> as Tape>⟧.tape self.old) (⟦<FileMachine<'a, R> as Tape>⟧.tape self.new) }
+        ensures failed { IsErrOf result DiskError.Failed → Rose (⟦<FileMachine<'a, R> as Tape>⟧.tape self.old).disk_faults (⟦<FileMachine<'a, R> as Tape>⟧.tape self.new).disk_faults }
+        ensures checked { IfMismatch result (λ part word. IsTrue (is_checked Plan.READ part)) }
+        ensures ran { IsTrue ⟦<FileMachine<'a, R> as Tape>⟧.told → Ran at Plan.READ buf.old buf.new (⟦<FileMachine<'a, R> as Tape>⟧.tape self.old) (⟦<FileMachine<'a, R> as Tape>⟧.tape self.new) result }
+
+        // What is counted, what never comes, and what is read of the sectors that are kept.
+        ensures fault { CountsFault (IsErrOf result DiskError.Failed) (⟦<FileMachine<'a, R> as Tape>⟧.tape self.old).disk_faults (⟦<FileMachine<'a, R> as Tape>⟧.tape self.new).disk_faults }
+        ensures same_writes { (⟦<FileMachine<'a, R> as Tape>⟧.tape self.new).writes ≡ (⟦<FileMachine<'a, R> as Tape>⟧.tape self.old).writes }
+        ensures no_want { IsErrOf result DiskError.Memory → ⊥ }
+        ensures kept { LooksKept at buf.new self.old.kept self.new.kept result }
+    {
+        if let Some(disk) = self.kept.sector(at) {
+            *buf = *disk;
+            return Ok(());
+        }
+        self.read_unkept(at, buf)
+    }
+
     /// It hands on the bytes that are held back of a drive's file, by one write call, and takes no memory. After Failed they are held back
-    /// still, until a call hands them on. The next write call of each file asks for its length again.
+    /// still, until a call hands them on. The next write call of each file asks for its length again, unless a line is there whole.
     fn flush(&mut self) -> Result<(), DiskError>
         ensures handed_on { OnOk result (⟦<FileMachine<'a, R> as Tape>⟧.handed_on self.new) }
         ensures alone { DiskAlone (⟦<FileMachine<'a, R> as Tape>⟧.tape self.old) (⟦<FileMachine<'a, R> as Tape>⟧.tape self.new) }
@@ -169,8 +192,11 @@ where
         // What is counted.
         ensures fault { CountsFault (IsErrOf result DiskError.Failed) (⟦<FileMachine<'a, R> as Tape>⟧.tape self.old).disk_faults (⟦<FileMachine<'a, R> as Tape>⟧.tape self.new).disk_faults }
         ensures same_writes { (⟦<FileMachine<'a, R> as Tape>⟧.tape self.new).writes ≡ (⟦<FileMachine<'a, R> as Tape>⟧.tape self.old).writes }
+        ensures forgotten { HasNoLine self.old.keys_after self.old.keys → KnowsNoLength self.new.first self.new.second }
     {
-        match self.hand_on_all() {
+        let answer = self.hand_on_all();
+        self.forget_unless_line();
+        match answer {
             Ok(()) => Ok(()),
             Err(_) => {
                 self.disk_faults = self.disk_faults.saturating_add(1);
@@ -187,14 +213,14 @@ where
 }
 
 impl<'a, R: Files + Input + Print> Console for FileMachine<'a, R> {
-    ghost use Rattle.std.specs.Prelude.{◌≡◌, ◌-◌, ◌<◌, ◌≤◌, length, take, IfOk, IfErr, IsErrOf, IsOk, IsTrue, OnErr, OnOk};
+    ghost use Rattle.std.specs.Prelude.{◌≡◌, ◌-◌, ◌<◌, ◌≤◌, length, take, IfOk, IfErr, IsErrOf, IsFalse, IsOk, IsTrue, OnErr, OnOk};
     ghost use Rattle.disk_records.specs.Tapes.{KeysAlone, ShowAlone, HasRead, HasShown, IsUnbroken, Rose};
-    ghost use Rattle.disk_image.specs.Machines.{CountsFault};
+    ghost use Rattle.disk_image.specs.Machines.{CountsFault, HasNoLine, KnowsNoLength};
     ghost use Rattle.disk_image.specs.Texts.{HoldsNoText, TakesText};
 
     ghost displayed = { λ m. HoldsNoText m.texts };
 
-    /// A read that a signal interrupts is made again. It takes no memory.
+    /// A read that a signal interrupts is made again. The next write call of each file asks for its length again. It takes no memory.
     fn read(&mut self, buf: &mut [u8]) -> Result<usize, ConsoleError>
         requires { 0 < length buf.old }
         ensures alone { KeysAlone (⟦<FileMachine<'a, R> as Tape>⟧.tape self.old) (⟦<FileMachine<'a, R> as Tape>⟧.tape self.new) }
@@ -205,11 +231,13 @@ impl<'a, R: Files + Input + Print> Console for FileMachine<'a, R> {
         // What is counted, and what never comes.
         ensures fault { CountsFault (IsErrOf result ConsoleError.Failed) (⟦<FileMachine<'a, R> as Tape>⟧.tape self.old).key_faults (⟦<FileMachine<'a, R> as Tape>⟧.tape self.new).key_faults }
         ensures no_want { IsErrOf result ConsoleError.Memory → ⊥ }
+        ensures forgotten { KnowsNoLength self.new.first self.new.second }
     {
+        self.forget_lengths();
         let was_empty = self.keys.buffer().is_empty();
         let answer = read_keys(&mut self.keys, buf);
         if was_empty {
-            self.keys_behind = keys_behind_lines(self.keys.buffer());
+            self.keys_after = keys_after_lines(self.keys.buffer());
         }
         match answer {
             Ok(count) => Ok(count),
@@ -241,11 +269,14 @@ impl<'a, R: Files + Input + Print> Console for FileMachine<'a, R> {
     }
 
     /// Whether a line end is among the keys that were read ahead. It makes no call of the outside and no search.
-    fn has_line(&self) -> bool {
-        self.keys.buffer().len() > self.keys_behind
+    fn has_line(&self) -> bool
+        ensures some { IsTrue result → HasNoLine self.now.keys_after self.now.keys → ⊥ }
+        ensures none { IsFalse result → HasNoLine self.now.keys_after self.now.keys }
+    {
+        self.keys.buffer().len() > self.keys_after
     }
 
-    /// It holds the bytes back behind those that are held, where there is room for them among 4,096. Where there isn't, what is held is
+    /// It holds the bytes back after those that are held, where there is room for them among 4,096. Where there isn't, what is held is
     /// handed on by one write call, and then the bytes are held if they fit, else written by a call of their own. After Failed nothing is
     /// held, and what the display has of it isn't known. It takes no memory.
     fn show(&mut self, bytes: &[u8]) -> Result<(), ConsoleError>
@@ -274,6 +305,7 @@ impl<'a, R: Files + Input + Print> Console for FileMachine<'a, R> {
     /// memory.
     fn flush_display(&mut self) -> Result<(), ConsoleError>
         ensures displayed { OnOk result (HoldsNoText self.new.texts) }
+        ensures same { OnOk result ((⟦<FileMachine<'a, R> as Tape>⟧.tape self.new) ≡ (⟦<FileMachine<'a, R> as Tape>⟧.tape self.old)) }
         ensures handed_on { ⟦<FileMachine<'a, R> as Tape>⟧.handed_on self.old → ⟦<FileMachine<'a, R> as Tape>⟧.handed_on self.new }
         ensures alone { ShowAlone (⟦<FileMachine<'a, R> as Tape>⟧.tape self.old) (⟦<FileMachine<'a, R> as Tape>⟧.tape self.new) }
         ensures failed { OnErr result (Rose (⟦<FileMachine<'a, R> as Tape>⟧.tape self.old).show_faults (⟦<FileMachine<'a, R> as Tape>⟧.tape self.new).show_faults) }
@@ -301,7 +333,7 @@ where
 
 impl<'a, R: Files + Input + Print> FileMachine<'a, R> {
     ghost use Rattle.std.specs.Prelude.{◌≡◌};
-    ghost use Rattle.disk_image.specs.Machines.{IsUntouched};
+    ghost use Rattle.disk_image.specs.Machines.{HasNoLine, IsUntouched, KnowsNoLength};
 
     /// A machine over the files of a pack of this shape, before its first call. Where the shape has two drives there is a second file.
     /// Where no memory is left for the sectors of the pack, none will be kept, and where none is left for texts, none will be held back.
@@ -319,7 +351,7 @@ impl<'a, R: Files + Input + Print> FileMachine<'a, R> {
         ensures form { (⟦<FileMachine<'a, R> as Tape>⟧.tape result).form ≡ shape }
         ensures displayed { ⟦<FileMachine<'a, R> as Console>⟧.displayed result }
     {
-        let keys_behind = keys_behind_lines(keys.buffer());
+        let keys_after = keys_after_lines(keys.buffer());
         FileMachine {
             rt,
             first: Placed::new(alloc, first),
@@ -328,7 +360,7 @@ impl<'a, R: Files + Input + Print> FileMachine<'a, R> {
             kept: KeptSectors::none_of(alloc, shape),
             cylinder: memory_of_cylinder(alloc),
             keys,
-            keys_behind,
+            keys_after,
             texts: HeldTexts::new(alloc),
             writes: 0,
             disk_faults: 0,
@@ -336,20 +368,45 @@ impl<'a, R: Files + Input + Print> FileMachine<'a, R> {
             show_faults: 0,
         }
     }
+
+    /// Knows the length of no file any longer: the next write call of each asks for it.
+    fn forget_lengths(&mut self)
+        ensures forgotten { KnowsNoLength self.new.first self.new.second }
+        ensures same { (⟦<FileMachine<'a, R> as Tape>⟧.tape self.new) ≡ (⟦<FileMachine<'a, R> as Tape>⟧.tape self.old) }
+        ensures handed_on { ⟦<FileMachine<'a, R> as Tape>⟧.handed_on self.old → ⟦<FileMachine<'a, R> as Tape>⟧.handed_on self.new }
+    {
+        self.first.forget_length();
+        if let Some(second) = &mut self.second {
+            second.forget_length();
+        }
+    }
+
+    /// Does so unless a line that was read ahead is there whole.
+    fn forget_unless_line(&mut self)
+        ensures forgotten { HasNoLine self.old.keys_after self.old.keys → KnowsNoLength self.new.first self.new.second }
+        ensures same { (⟦<FileMachine<'a, R> as Tape>⟧.tape self.new) ≡ (⟦<FileMachine<'a, R> as Tape>⟧.tape self.old) }
+        ensures handed_on { ⟦<FileMachine<'a, R> as Tape>⟧.handed_on self.old → ⟦<FileMachine<'a, R> as Tape>⟧.handed_on self.new }
+    {
+        if self.has_line() {
+            return;
+        }
+        self.forget_lengths();
+    }
 }
 
 impl<'a, R: Files + Input + Print> FileMachine<'a, R>
 where
     R::File: FileExt,
 {
-    ghost use Rattle.std.specs.Prelude.{◌≡◌, ◌≢◌, ◌<◌, ◌≤◌, None, IfOk, IfSome, IfNone, IsTrue, OnOk};
+    ghost use Rattle.std.specs.Prelude.{◌≡◌, ◌≢◌, ◌<◌, ◌≤◌, None, IfOk, IfSome, IfNone, IsTrue, IsErrOf, OnOk};
     ghost use Rattle.disk_records.specs.declared.records.Act.TheVariants.{Write};
     ghost use Rattle.disk_records.specs.Addresses.{pages_of};
     ghost use Rattle.disk_records.specs.Checks.{is_legal, is_checked};
-    ghost use Rattle.disk_records.specs.Tapes.{DiskAlone};
+    ghost use Rattle.disk_records.specs.Tapes.{DiskAlone, IfMismatch};
     ghost use Rattle.disk_image.specs.Holding.{HoldsNone};
     ghost use Rattle.disk_image.specs.Images.{first_drive};
-    ghost use Rattle.disk_image.specs.Kept.{kept_at, ReadsKept, ObeysKept};
+    ghost use Rattle.disk_image.specs.Kept.{kept_at, LooksKept, ReadsKept, ObeysKept};
+    ghost use Rattle.disk_image.specs.Machines.{CountsFault, HasNoLine};
     ghost use Rattle.disk_image.specs.Records.{writes_after_all};
 
     /// Does one sector command on a sector that is kept, or in the file of its drive, and answers the first word that differs, if one
@@ -407,6 +464,28 @@ where
             return Ok(compare(plan, buf, disk));
         }
         self.read_from_file(at, plan, buf)
+    }
+
+    /// Reads a whole sector that isn't kept. It stands apart from the reading of one that is, which then makes no call but that which copies.
+    #[inline(never)]
+    fn read_unkept(&mut self, at: u16, buf: &mut Sector) -> Result<(), DiskError>
+        requires place { at < pages_of (⟦<FileMachine<'a, R> as Tape>⟧.tape self.old).form }
+        requires not_kept { kept_at self.old.kept at ≡ None }
+        ensures alone { DiskAlone (⟦<FileMachine<'a, R> as Tape>⟧.tape self.old) (⟦<FileMachine<'a, R> as Tape>⟧.tape self.new) }
+        ensures fault { CountsFault (IsErrOf result DiskError.Failed) (⟦<FileMachine<'a, R> as Tape>⟧.tape self.old).disk_faults (⟦<FileMachine<'a, R> as Tape>⟧.tape self.new).disk_faults }
+        ensures same_writes { (⟦<FileMachine<'a, R> as Tape>⟧.tape self.new).writes ≡ (⟦<FileMachine<'a, R> as Tape>⟧.tape self.old).writes }
+        ensures checked { IfMismatch result (λ part word. IsTrue (is_checked Plan.READ part)) }
+        ensures no_want { IsErrOf result DiskError.Memory → ⊥ }
+        ensures kept { LooksKept at buf.new self.old.kept self.new.kept result }
+    {
+        match self.read_from_file(at, Plan::READ, buf) {
+            Ok(None) => Ok(()),
+            Ok(Some((part, word))) => Err(DiskError::Mismatch { part, word }),
+            Err(_) => {
+                self.disk_faults = self.disk_faults.saturating_add(1);
+                Err(DiskError::Failed)
+            }
+        }
     }
 
     /// Does the same of a sector that isn't kept. It stands apart from the commands on what is kept, which are far more and would else clear
@@ -472,18 +551,17 @@ where
         }
     }
 
-    /// Hands on what is held back of the files, and knows the length of neither any longer, whatever the answer. At most one of them has any
-    /// held back, as a command that writes hands on that of the other drive.
+    /// Hands on what is held back of the files. At most one of them has any held back, as a command that writes hands on that of the other
+    /// drive.
     fn hand_on_all(&mut self) -> io::Result<()>
         ensures same { (⟦<FileMachine<'a, R> as Tape>⟧.tape self.new) ≡ (⟦<FileMachine<'a, R> as Tape>⟧.tape self.old) }
         ensures first { OnOk result (HoldsNone self.new.first.held) }
         ensures second { OnOk result (IfSome self.new.second (λ file. HoldsNone file.held)) }
-        ensures first_unknown { self.new.first.known_length ≡ None }
-        ensures second_unknown { IfSome self.new.second (λ file. file.known_length ≡ None) }
+        ensures kept { HasNoLine self.old.keys_after self.old.keys → HasNoLine self.new.keys_after self.new.keys }
     {
-        let first = self.first.flush();
+        let first = self.first.hand_on();
         if let Some(second) = &mut self.second {
-            second.flush()?;
+            second.hand_on()?;
         }
         first
     }
@@ -501,10 +579,10 @@ fn keys_of_line(keys: &[u8]) -> usize
     }
 }
 
-/// Counts the keys behind the last line end among these: all of them where none ends a line.
-fn keys_behind_lines(keys: &[u8]) -> usize
+/// Counts the keys after the last line end among these: all of them where none ends a line.
+fn keys_after_lines(keys: &[u8]) -> usize
     ensures fits { result ≤ length keys.now }
-    ensures behind { (k : ℕ) → length keys.now - result ≤ k → k < length keys.now → slice_index keys.now k ≢ 10 }
+    ensures after { (k : ℕ) → length keys.now - result ≤ k → k < length keys.now → slice_index keys.now k ≢ 10 }
     ensures end { result < length keys.now → slice_index keys.now (length keys.now - result - 1) ≡ 10 }
 {
     match memrchr(LINE_END, keys) {

@@ -3,9 +3,9 @@
 // memory of the file that follow each other, in an order in which one call may write them all (held.rt). They go ahead of all that is read
 // or written after them.
 //
-// The file's length is asked for before the first write call after a flush, before the first after an error of a write call or of that
-// question, and before the first after a read call that brought fewer bytes than were asked for, as of a file that was shortened. The
-// other write calls go by the length that was answered then.
+// The file's length is asked for before the first write call, before the first after the machine forgot it (machine.rt), before the first
+// after an error of a write call or of that question, and before the first after a read call that brought fewer bytes than were asked for,
+// as of a file that was shortened. The other write calls go by the length that was answered then.
 ghost use Rattle.std.specs.Prelude.{◌≡◌, ◌⊎◌, ◌↔◌, ◌+◌, ◌≤◌, length, None, Some, IfSome, IsSomeAnd, IsTrue, OnOk, OnErr};
 ghost use Rattle.disk_records.specs.Tapes.{capped};
 ghost use Rattle.disk_image.specs.Holding.{HoldsNone, TakesSector};
@@ -37,8 +37,8 @@ pub(crate) struct Placed<F> {
     at: u64,
     // what was written and isn't in the file yet
     held: Held,
-    // the length in bytes that the file answered when it was asked last, where since then no flush came, no error of a write call or of that
-    // question, and no read call that brought fewer bytes than were asked for
+    // the length in bytes that the file answered when it was asked last, where it wasn't forgotten since then, and no error of a write call or
+    // of that question came, and no read call that brought fewer bytes than were asked for
     known_length: Option<u64>,
 }
 
@@ -55,6 +55,15 @@ impl<F> Placed<F> {
             held: Held::new(alloc),
             known_length: None,
         }
+    }
+
+    /// Knows the file's length no longer: the next write call asks for it.
+    pub(crate) fn forget_length(&mut self)
+        ensures forgotten { self.new.known_length ≡ None }
+        ensures same_held { self.new.held ≡ self.old.held }
+        ensures same_place { self.new.at ≡ self.old.at }
+    {
+        self.known_length = None;
     }
 }
 
@@ -79,19 +88,6 @@ impl<F: FileExt + Seek> Placed<F> {
         )?;
         self.held.clear();
         Ok(())
-    }
-
-    /// Hands on what is held back, as `hand_on` does, and knows the file's length no longer, whatever the answer: the next write call asks
-    /// for it again.
-    pub(crate) fn flush(&mut self) -> io::Result<()>
-        ensures ok { OnOk result (HoldsNone self.new.held) }
-        ensures err { OnErr result (self.new.held ≡ self.old.held) }
-        ensures place { self.new.at ≡ self.old.at }
-        ensures forgotten { self.new.known_length ≡ None }
-    {
-        let answer = self.hand_on();
-        self.known_length = None;
-        answer
     }
 
     /// Takes a sector for the place where the file stands, which goes on by the sector's 532 bytes. They are held back. What is held goes
@@ -164,7 +160,7 @@ impl<F: FileExt + Seek> Read for Placed<F> {
         self.hand_on()?;
         let count = self.file.read_at(buf, self.at)?;
         if count < buf.len() {
-            self.known_length.take();
+            self.forget_length();
         }
         self.at = self.at.saturating_add(count as u64);
         Ok(count)

@@ -1,6 +1,6 @@
 // Texts that are held back on their way to the display, so that many short ones take one write call.
 //
-// They stand one behind the other in memory that is taken once. A text that finds no room behind them has them handed on first, by one
+// They stand one after the other in memory that is taken once. A text that finds no room after them has them handed on first, by one
 // call; one that has no room alone is then written by a call of its own. After a call that failed nothing is held any more: what the
 // display has of it isn't known, and to write it again could show a part of it twice.
 ghost use Rattle.std.specs.Prelude.{◌≡◌, ◌++◌, vec_len};
@@ -21,7 +21,7 @@ pub(crate) struct HeldTexts {
 
 impl HeldTexts {
     ghost use Rattle.std.specs.Prelude.{◌≡◌, ◌++◌, length, IsTrue, IsFalse, OnOk, OnErr};
-    ghost use Rattle.disk_image.specs.Texts.{held_text, FitsBehind, HoldsNoText, IsTooLong, TakesText};
+    ghost use Rattle.disk_image.specs.Texts.{held_text, FitsAfter, HoldsNoText, IsTooLong, TakesText};
 
     /// Holds nothing, and has memory for 4,096 bytes. Where that is refused it never holds any.
     pub(crate) fn new(alloc: Global) -> HeldTexts
@@ -48,10 +48,10 @@ impl HeldTexts {
         &self.buffer
     }
 
-    /// Holds these bytes behind those that are held. False, and then nothing changes: there is no room for them. It takes no memory.
+    /// Holds these bytes after those that are held. False, and then nothing changes: there is no room for them. It takes no memory.
     fn put(&mut self, bytes: &[u8]) -> bool
         ensures held { IsTrue result → held_text self.new ≡ held_text self.old ++ bytes.now }
-        ensures fits { IsTrue result → FitsBehind (length bytes.now) self.old }
+        ensures fits { IsTrue result → FitsAfter (length bytes.now) self.old }
         ensures refused { IsFalse result → self.new ≡ self.old }
         ensures too_long { IsFalse result → IsTooLong (length bytes.now) self.old }
     {
@@ -66,7 +66,7 @@ impl HeldTexts {
         self.buffer.clear();
     }
 
-    /// Takes a text for the display. It is held where there is room behind what is held. Else what is held goes ahead, by one call, and the
+    /// Takes a text for the display. It is held where there is room after what is held. Else what is held goes ahead, by one call, and the
     /// text is held; or it is written by a call of its own, where there is no room for it alone. After an error nothing is held.
     pub(crate) fn show<P: Print>(&mut self, display: &P, bytes: &[u8]) -> Result<(), Failed>
         ensures ok { OnOk result (TakesText bytes.now self.old self.new) }

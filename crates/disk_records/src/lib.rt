@@ -15,8 +15,8 @@
 //!    2^64 - 1, its type's end, and stays there (`Rose`).
 //! 4. On a modelled machine a sector command's record writes are a prefix of its plan's for every answer, all of it at
 //!    Ok, and none where a checked word differs (`Ran`).
-//! 5. Record writes may be held back until `flush`, and nothing can be shown before all are handed on (`handed_on`). Keys come by `read`, or
-//!    by `read_piece`, which goes past no line's end.
+//! 5. Record writes may be held back until `flush`, and nothing can be shown before all are handed on (`handed_on`). Texts that are shown
+//!    may be held back until `flush_display` (`displayed`). Keys come by `read`, or by `read_piece`, which goes past no line's end.
 #![tactic(auto)]
 
 mod check;

@@ -13,8 +13,8 @@ use crate::{Plan, Sector, Shape};
 pub enum DiskError {
     /// A checked word that isn't 0 differs, first at this record (0 header, 1 label, 2 value) and word. Nothing was written.
     Mismatch { part: u8, word: u16 },
-    /// The device failed, and the count of disk faults rose. The record writes done are a prefix of the command's; of those that the machine
-    /// held back the last ones may be lost.
+    /// The device failed, and the count of disk faults rose. The record writes done are a prefix of the command's; of those that the
+    /// machine held back the last ones may be lost.
     Failed,
     /// No memory was left for the record writes of a sector that matched. Nothing was written.
     Memory,
@@ -23,8 +23,8 @@ pub enum DiskError {
 /// Why keys weren't read or bytes not all shown.
 #[derive(Clone, Copy, Debug, PartialEq, Eq, Drop)]
 pub enum ConsoleError {
-    /// The device failed, and its own count of faults rose. A failed `read` took no key; a failed `show` has shown a
-    /// prefix of its bytes.
+    /// The device failed, and its own count of faults rose. A failed `read` took no key; a failed `show` has shown a prefix of its bytes.
+    /// Of the texts that the machine held back the last ones may be lost.
     Failed,
     /// No memory was left. No key was taken and nothing shown.
     Memory,
@@ -39,8 +39,8 @@ pub trait Tape {
     /// What it holds and what has happened to it.
     ghost tape: { Self → Taped };
 
-    /// Whether all record writes so far, except those that were lost at a fault, were handed on to the device, so that they stand on the pack
-    /// if the process stops. A machine in memory holds none back, and has always handed them on.
+    /// Whether all record writes so far, except those that were lost at a fault, were handed on to the device, so that they stand on the
+    /// pack if the process stops. A machine in memory holds none back, and has always handed them on.
     ghost handed_on: { Self → Type 0 };
 }
 
@@ -55,8 +55,8 @@ pub trait Disk: Tape {
         ensures { result ≡ (Self.tape self.now).writes };
 
     /// One sector command at the virtual address `at`: the records of the sector are read to `buf`, checked against it or
-    /// written from it, in order. What it writes may be held back until `flush`, and is seen by the next commands all the same. After an error
-    /// what `buf` holds is open.
+    /// written from it, in order. What it writes may be held back until `flush`, and is seen by the next commands all the same. After an
+    /// error what `buf` holds is open.
     fn run(&mut self, at: u16, plan: Plan, buf: &mut Sector) -> Result<(), DiskError>
         requires place { at < pages_of (Self.tape self.old).form }
         requires legal { IsTrue (is_legal plan) }
@@ -64,6 +64,18 @@ pub trait Disk: Tape {
         ensures failed { IsErrOf result DiskError.Failed → Rose (Self.tape self.old).disk_faults (Self.tape self.new).disk_faults }
         ensures checked { IfMismatch result (λ part word. IsTrue (is_checked plan part)) }
         ensures ran { IsTrue Self.told → Ran at plan buf.old buf.new (Self.tape self.old) (Self.tape self.new) result };
+
+    /// Reads the whole sector at the virtual address `at` to `buf`, as `run` does with `Plan::READ`. Unless a machine does it otherwise, it
+    /// is that command. After an error what `buf` holds is open.
+    fn read_sector(&mut self, at: u16, buf: &mut Sector) -> Result<(), DiskError>
+        requires place { at < pages_of (Self.tape self.old).form }
+        ensures alone { DiskAlone (Self.tape self.old) (Self.tape self.new) }
+        ensures failed { IsErrOf result DiskError.Failed → Rose (Self.tape self.old).disk_faults (Self.tape self.new).disk_faults }
+        ensures checked { IfMismatch result (λ part word. IsTrue (is_checked Plan.READ part)) }
+        ensures ran { IsTrue Self.told → Ran at Plan.READ buf.old buf.new (Self.tape self.old) (Self.tape self.new) result }
+    {
+        self.run(at, Plan::READ, buf)
+    }
 
     /// Hands on to the device the record writes that the machine holds back, so that they stand on the pack if the process stops. A machine
     /// may hold back those of its last sector commands, in their order, until the next call of this one; one that is modelled holds none
@@ -90,8 +102,8 @@ pub const LINE_END: u8 = 10;
 
 /// A keyboard and a display.
 pub trait Console: Tape {
-    /// Whether all bytes shown so far, except those that were lost at a fault, were handed on to the display. A machine in memory holds none
-    /// back, and has always handed them on.
+    /// Whether all bytes shown so far, except those that were lost at a fault, were handed on to the display. A machine in memory holds
+    /// none back, and has always handed them on.
     ghost displayed: { Self → Type 0 };
 
     /// Moves keys to the front of `buf` and answers how many: 0 exactly at the end of input.
@@ -120,9 +132,9 @@ pub trait Console: Tape {
         false
     }
 
-    /// Shows these bytes. Whoever sees them may rely on what was written before, so all record writes have to be handed on by then. A machine
-    /// may hold the bytes back, behind those that were shown before, until the next call of `flush_display`; one that is modelled holds none
-    /// back.
+    /// Shows these bytes. Whoever sees them may rely on what was written before, so all record writes have to be handed on by then. A
+    /// machine may hold the bytes back, after those that were shown before, until the next call of `flush_display`; one that is modelled
+    /// holds none back.
     fn show(&mut self, bytes: &[u8]) -> Result<(), ConsoleError>
         requires handed_on { Self.handed_on self.old }
         ensures handed_on { Self.handed_on self.new }
@@ -130,10 +142,11 @@ pub trait Console: Tape {
         ensures failed { IsErrOf result ConsoleError.Failed → Rose (Self.tape self.old).show_faults (Self.tape self.new).show_faults }
         ensures shown { IsTrue Self.told → HasShown bytes.now (Self.tape self.old) (Self.tape self.new) result };
 
-    /// Hands on to the display the bytes that the machine holds back. After Failed some of them may be lost, the last ones; no other error
-    /// comes.
+    /// Hands on to the display the bytes that the machine holds back. At Ok its tape stays as it was. After Failed some of them may be
+    /// lost, the last ones; no other error comes.
     fn flush_display(&mut self) -> Result<(), ConsoleError>
         ensures displayed { OnOk result (Self.displayed self.new) }
+        ensures same { OnOk result ((Self.tape self.new) ≡ (Self.tape self.old)) }
         ensures handed_on { Self.handed_on self.old → Self.handed_on self.new }
         ensures alone { ShowAlone (Self.tape self.old) (Self.tape self.new) }
         ensures failed { OnErr result (Rose (Self.tape self.old).show_faults (Self.tape self.new).show_faults) }

@@ -9,7 +9,7 @@ ghost use Rattle.label_check.specs.Guarded.{Carries, Guarded, HoldsOther, HoldsP
 
 use crate::{GuardError, LookError, PageInfo};
 use disk_records::{
-    Disk, DiskError, Page, Plan, Sector, bytes_in, next_link, page_of, previous_link, right_header,
+    Disk, DiskError, Page, Sector, bytes_in, next_link, page_of, previous_link, right_header,
 };
 
 /// Reads the whole sector at the virtual address `at` to `buf`, and answers whether its header is right. One sector command.
@@ -25,7 +25,7 @@ pub fn look<D: Disk>(disk: &mut D, at: u16, buf: &mut Sector) -> Result<bool, Lo
     ensures runs { IsTrue D.told → (D.tape disk.new).runs ≡ capped ((D.tape disk.old).runs + 1) }
 {
     let shape = disk.shape();
-    match disk.run(at, Plan::READ, buf) {
+    match disk.read_sector(at, buf) {
         Ok(()) => Ok(right_header(shape, at, &buf.header)),
         // nothing is checked
         Err(DiskError::Mismatch { .. }) => unreachable!(),

@@ -49,7 +49,8 @@ fn obey_lines<M: Machine>(
 
 /// The operating system: opens the pack, obeys the typed lines by the Executive in order, each with its reply, and closes the pack.
 /// `moment` is the time of new dates, in seconds since the start of 1901. `tally` gives the limit of record writes up to which operations
-/// are counted, and at the end it counts those of this session; where the pack isn't entered, none.
+/// are counted, and at the end it counts those of this session; where the pack isn't entered, none. The machine may hold the last replies
+/// back until `flush_display`.
 ///
 /// Done: the keys were taken to their end, to a `quit` that was answered `done`, or to 2^31 bytes, and the pack is closed. NeedsScavenge: the
 /// pack isn't entered, and the one text says why; or a hint failed in the session. DiskFault, KeyFault, DisplayFault: that device failed, and

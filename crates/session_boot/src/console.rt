@@ -53,6 +53,7 @@ pub(crate) fn show_reply<C: Console>(
 /// Display: the display failed, and of what was held back the last bytes may be lost.
 pub fn flush_display<C: Console>(console: &mut C) -> Result<(), Fault>
     ensures told { IsTrue C.told → IsOk result × (C.tape console.new ≡ C.tape console.old) }
+    ensures same { OnOk result (C.tape console.new ≡ C.tape console.old) }
     ensures displayed { OnOk result (C.displayed console.new) }
     ensures failed { OnErr result (Rose (C.tape console.old).show_faults (C.tape console.new).show_faults) }
     ensures cause { HasShowCause (C.tape console.old) (C.tape console.new) result }
@@ -70,6 +71,7 @@ pub fn flush_display<C: Console>(console: &mut C) -> Result<(), Fault>
 /// Display: the display failed, and of what was held back the last bytes may be lost.
 pub(crate) fn flush_unless<C: Console>(console: &mut C, may_wait: bool) -> Result<(), Fault>
     ensures told { IsTrue C.told → IsOk result × (C.tape console.new ≡ C.tape console.old) }
+    ensures same { OnOk result (C.tape console.new ≡ C.tape console.old) }
     ensures displayed { may_wait ≡ false → OnOk result (C.displayed console.new) }
     ensures cause { HasShowCause (C.tape console.old) (C.tape console.new) result }
     ensures alone { ShowAlone (C.tape console.old) (C.tape console.new) }

@@ -106,6 +106,7 @@ pub struct Log {
     openings: Cell<u64>,
     file_reads: Cell<u64>,
     file_writes: Cell<u64>,
+    lengths: Cell<u64>,
     file_calls: RefCell<Vec<FileCall>>,
 }
 
@@ -119,6 +120,7 @@ impl Log {
             openings: Cell::new(0),
             file_reads: Cell::new(0),
             file_writes: Cell::new(0),
+            lengths: Cell::new(0),
             file_calls: RefCell::new(Vec::new(alloc)),
         }
     }
@@ -139,6 +141,11 @@ impl Log {
     /// How many read calls the keyboard had.
     pub fn key_reads(&self) -> u64 {
         self.key_reads.get()
+    }
+
+    /// How often the files were asked for their length.
+    pub fn lengths(&self) -> u64 {
+        self.lengths.get()
     }
 
     /// The first 12 calls of files since they were last taken.
@@ -184,6 +191,10 @@ impl Log {
         let number = self.file_writes.get();
         self.file_writes.set(number.saturating_add(1));
         number
+    }
+
+    fn note_length(&self) {
+        self.lengths.set(self.lengths.get().saturating_add(1));
     }
 
     fn note_key_read(&self) {
@@ -358,6 +369,9 @@ impl FileExt for Logged<'_> {
 impl Seek for Logged<'_> {
     fn seek(&mut self, to: SeekFrom) -> io::Result<u64> {
         self.log.note_file_call(FileCall::Seek(to))?;
+        if to == SeekFrom::End(0) {
+            self.log.note_length();
+        }
         self.file.seek(to)
     }
 }

@@ -536,9 +536,24 @@ fn keys_are_read_ahead_and_replies_shown_together(rt: HostRuntime) -> Result<(),
             "{pairs}"
         );
         // the replies to the lines that one read brings are shown by one call, before the next read
-        assert!(rt; log.shows() <= most_reads, "{pairs}");
+        assert!(rt; log.shows() == most_reads - 1, "{pairs}");
         assert!(rt; log.key_reads() <= most_reads, "{pairs}");
         fs::remove_file(&rt, "typed")?;
     }
+    Ok(())
+}
+
+#[test]
+fn the_length_is_asked_once_for_lines_that_were_read_together(rt: HostRuntime) -> Result<(), Fail> {
+    let alloc = rt.alloc();
+    let keys = b"patch #3 0 41\npatch #3 1 42\npatch #3 2 43\n";
+    let log = Log::new(alloc);
+    let outside = Outside::new(&rt, keys, Broken::Nothing, &log);
+    let mut machine = machine_over(&rt, &outside, "together")?;
+    assert!(rt; start(alloc, &mut machine) == Status::Done);
+    assert!(rt; log.shown(alloc)?.as_slice() == b"done\ndone\ndone\n".as_slice());
+    // for the three lines, and for the closing, before which the keyboard was asked for more
+    assert!(rt; log.lengths() == 2);
+    fs::remove_file(&rt, "together")?;
     Ok(())
 }
