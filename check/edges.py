@@ -3,6 +3,7 @@
 
 Each run has a folder of its own and at most 10 seconds. What is wanted stands in docs/commands.md, and was never taken from a run.
 """
+import fcntl
 import os
 import pathlib
 import re
@@ -648,6 +649,30 @@ def check_shrinking_file(program):
             failures.append(f"a file that shrinks to {length} bytes, {second!r}: {found[:4]}, or it is left otherwise")
 
 
+def check_shrinking_while_shown(program):
+    """The pack file becomes shorter while the display makes the program wait, between lines whose keys were typed ahead together. The first
+    ones are in the file by then. What the last one writes is refused by the file's new length, and the file stays as short."""
+    content = b"ABCDE" + b"A" * 4000
+    typed = b"".join(b"append A " + content[at : at + 2000].hex().encode() + b"\n" for at in (5, 2005)) + b"type A\n" + PATCH
+    replies = b"length 2005\nlength 4005\n"
+    text = b"".join(content[at : at + 32].hex().encode() + b"\n" for at in range(0, len(content), 32)) + b"4005 bytes\n"
+    with tempfile.TemporaryDirectory() as folder:
+        file = pathlib.Path(folder) / "pack"
+        file.write_bytes(abcde())
+        streams = {"stdin": subprocess.PIPE, "stdout": subprocess.PIPE, "stderr": subprocess.PIPE}
+        with subprocess.Popen([program, file, "boot"], bufsize=0, **streams) as process:
+            # less than the text has, which is shown by one call: that call waits until more of it is read than its first byte
+            fcntl.fcntl(process.stdout.fileno(), fcntl.F_SETPIPE_SZ, resource.getpagesize())
+            process.stdin.write(typed)
+            shown = b"".join(process.stdout.read(1) for _ in range(len(replies) + 1))
+            os.truncate(file, 100)
+            out, err = process.communicate(timeout=SECONDS)
+        found = (process.returncode, shown + out, err, file.stat().st_size)
+    if found != (DISK_FAILED, replies + text, b"", 100):
+        code, _, said, length = found
+        failures.append(f"a file that shrinks while the display waits: {code}, {said}, {length} bytes are left, or otherwise shown")
+
+
 def check_shrinking_second(program):
     """And the second of two, on which `A.` has its page. One that was read is read from memory, and can't be written."""
     both = crossed()
@@ -745,6 +770,7 @@ CHECKS = [
     check_openings,
     check_memory_limit,
     check_shrinking_file,
+    check_shrinking_while_shown,
     check_shrinking_second,
     check_whole_writes,
     check_replies_before_keys,

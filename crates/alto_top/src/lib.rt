@@ -17,7 +17,8 @@
 //! sectors is shown; if no sector of the second drive carried a page, each crash point shows what stood before (`prepares`, `shows` of
 //! `prepare_pack`). On one drive it is `usage`.
 //! And for every machine: no text is shown while record writes are held back, and unless a fault or out of memory is answered all are handed on
-//! at the end, and all that was shown (`ends` of `alto`). Whoever adds a word has the disk hand them on before it shows (`flush_disk`).
+//! at the end, and all that was shown (`ends` of `alto`). Whoever adds a word has the disk hand them on before it shows (`flush_disk`), and
+//! whoever asks for one of the words by itself has the display hand on what was shown (`flush_display`).
 //! And for every machine: DiskFault, KeyFault and DisplayFault come only where their own count rose (`ends` of `alto`).
 //! And for every machine: with words other than `boot`, `show` or `scavenge` alone, or `format` or `prepare` with a number no record write is
 //! counted, and no fault except the display's (`touches`); where it is modelled, no sector command is run, nothing is written and no key is

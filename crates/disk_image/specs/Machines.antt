@@ -49,7 +49,8 @@ reached (image.BadLength bytes) = BadLength bytes
 reached (image.Unlike first second) = Unlike first second
 reached image.Memory = Memory
 
--- of the keys that were read ahead none but those after the last line end are left, which are so many
+-- of the keys that were read ahead no more are left than stood after the last line end among them, which were so many: so no line is there
+-- whole
 abbrev pub HasNoLine : {R A : Type 0} → ℕ → BufReader R A → Type 0
 HasNoLine after keys = length (reader_buffer keys) ≤ after
 

@@ -72,23 +72,7 @@ fn keep_cylinder_of<F: Read + Seek>(
 }
 
 /// The first word of memory that differs from the disk's. Where there is none, memory gets the records that the command reads or checks.
-/// Where it only reads, the sector is copied whole.
-#[inline(always)]
 pub(crate) fn compare(plan: Plan, memory: &mut Sector, disk: &Sector) -> Option<(u8, u16)>
-    ensures found { result ≡ mismatch plan memory.old disk.now }
-    ensures same { IfNone result (memory.new ≡ memory_after plan memory.old disk.now) }
-{
-    if plan == Plan::READ {
-        *memory = *disk;
-        return None;
-    }
-    compare_records(plan, memory, disk)
-}
-
-/// The same of a command that may check or write, record by record. It stands apart from those that only read, which are most, so that
-/// they make no call but the one that copies.
-#[inline(never)]
-fn compare_records(plan: Plan, memory: &mut Sector, disk: &Sector) -> Option<(u8, u16)>
     ensures found { result ≡ mismatch plan memory.old disk.now }
     ensures same { IfNone result (memory.new ≡ memory_after plan memory.old disk.now) }
 {

@@ -20,9 +20,10 @@
 //! to a file it is proved which they are for each place of it (`Puts`, `HoldsAll`), which may join them so that one call writes all in order
 //! (`IsLater`), that the write of a sector puts exactly its bytes where the file stands (`write_back`: `TakesSector`), and that none are held
 //! after a flush that answers Ok. Of the sectors that are kept in memory it is proved what a command reads of them, and that they are what
-//! memory holds after each command, also after one that writes (`ObeysKept`). Of the texts that are held back on their way to the display it
-//! is proved which bytes they are after each that is shown (`TakesText`), and that none are held after a call that fails or a flush of the
-//! display that answers Ok. That a command takes these steps in this order, and when what is held back is handed on, is tested.
+//! memory holds after each command, also after one that writes (`ObeysKept`) and after the call that reads one of them (`LooksKept`). Of the
+//! texts that are held back on their way to the display it is proved which bytes they are after each that is shown (`TakesText`), and that
+//! none are held after a call that fails or a flush of the display that answers Ok. That a command takes these steps in this order, and when
+//! what is held back is handed on, is tested.
 #![tactic(auto)]
 
 mod codec;

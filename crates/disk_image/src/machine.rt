@@ -27,9 +27,11 @@
 // less; and a machine that is dropped without a flush takes along what it holds back.
 //
 // The file's length is asked for before its first write call, by a seek to its end; the write calls that follow go by the length that was
-// answered. It is asked for again after a flush, unless a line that was read ahead is there whole then, and after a read of keys that
-// weren't read ahead: so a session asks once for all lines whose keys were read together. No write makes the file longer, unless another
-// process shortens the file after the question: the time in which it can is that from the question to the last write call that goes by it.
+// answered. It is asked for again after a flush, unless a line that was read ahead is there whole then, after a read of keys that weren't
+// read ahead, and after a write call of texts: so a session asks once for lines whose keys were read together and whose replies are handed
+// on together, and no write goes by what was answered before keys or the display were waited for. No write makes the file longer, unless
+// another process shortens the file after the question: the time in which it can is that from the question to the last write call that
+// goes by it.
 // Where the file is too short by that length, or the call fails, the command fails in which that was tried, or the flush; what is held back
 // stays so and is tried again first, so nothing goes ahead of it, and the length is asked for again. So it is after a read call that is
 // short.
@@ -46,7 +48,7 @@
 ghost use Rattle.std.specs.Prelude.{◌≡◌, ◌≢◌, ℕ, ◌-◌, ◌<◌, ◌≤◌, false, [], length, take, slice_index, IfOk, IfErr, OnErr};
 ghost use Rattle.std.specs.Option.{ForNone};
 ghost use Rattle.std.specs.Io.{ReadsAtMost};
-ghost use Rattle.std.specs.Io.Buffered.{reader_remaining};
+ghost use Rattle.std.specs.Io.Buffered.{reader_buffer, reader_remaining};
 ghost use Rattle.std.specs.Io.KnownBytes.{Consumes, IsAtEnd, Keeps};
 ghost use Rattle.std.specs.IoError.{error_kind};
 ghost use Rattle.disk_records.specs.Addresses.{disks_of};
@@ -216,7 +218,7 @@ impl<'a, R: Files + Input + Print> Console for FileMachine<'a, R> {
     ghost use Rattle.std.specs.Prelude.{◌≡◌, ◌-◌, ◌<◌, ◌≤◌, length, take, IfOk, IfErr, IsErrOf, IsFalse, IsOk, IsTrue, OnErr, OnOk};
     ghost use Rattle.disk_records.specs.Tapes.{KeysAlone, ShowAlone, HasRead, HasShown, IsUnbroken, Rose};
     ghost use Rattle.disk_image.specs.Machines.{CountsFault, HasNoLine, KnowsNoLength};
-    ghost use Rattle.disk_image.specs.Texts.{HoldsNoText, TakesText};
+    ghost use Rattle.disk_image.specs.Texts.{HoldsNoText, IsTooLong, TakesText};
 
     ghost displayed = { λ m. HoldsNoText m.texts };
 
@@ -249,7 +251,7 @@ impl<'a, R: Files + Input + Print> Console for FileMachine<'a, R> {
     }
 
     /// It takes all keys of the line that were read ahead and that `buf` has place for, and one key where none is left of them. A read that a
-    /// signal interrupts is made again. It takes no memory.
+    /// signal interrupts is made again. Where none is left, the next write call of each file asks for its length again. It takes no memory.
     fn read_piece(&mut self, buf: &mut [u8]) -> Result<usize, ConsoleError>
         requires { 0 < length buf.old }
         ensures alone { KeysAlone (⟦<FileMachine<'a, R> as Tape>⟧.tape self.old) (⟦<FileMachine<'a, R> as Tape>⟧.tape self.new) }
@@ -261,6 +263,7 @@ impl<'a, R: Files + Input + Print> Console for FileMachine<'a, R> {
         // What is counted, and what never comes.
         ensures fault { CountsFault (IsErrOf result ConsoleError.Failed) (⟦<FileMachine<'a, R> as Tape>⟧.tape self.old).key_faults (⟦<FileMachine<'a, R> as Tape>⟧.tape self.new).key_faults }
         ensures no_want { IsErrOf result ConsoleError.Memory → ⊥ }
+        ensures forgotten { reader_buffer self.old.keys ≡ [] → KnowsNoLength self.new.first self.new.second }
     {
         match take_read_ahead(&mut self.keys, buf) {
             0 => self.read(&mut buf[..1]),
@@ -277,8 +280,8 @@ impl<'a, R: Files + Input + Print> Console for FileMachine<'a, R> {
     }
 
     /// It holds the bytes back after those that are held, where there is room for them among 4,096. Where there isn't, what is held is
-    /// handed on by one write call, and then the bytes are held if they fit, else written by a call of their own. After Failed nothing is
-    /// held, and what the display has of it isn't known. It takes no memory.
+    /// handed on by one write call, and then the bytes are held if they fit, else written by a call of their own; and the next write call of
+    /// each file asks for its length again. After Failed nothing is held, and what the display has of it isn't known. It takes no memory.
     fn show(&mut self, bytes: &[u8]) -> Result<(), ConsoleError>
         requires handed_on { ⟦<FileMachine<'a, R> as Tape>⟧.handed_on self.old }
         ensures handed_on { ⟦<FileMachine<'a, R> as Tape>⟧.handed_on self.new }
@@ -291,7 +294,9 @@ impl<'a, R: Files + Input + Print> Console for FileMachine<'a, R> {
         ensures no_want { IsErrOf result ConsoleError.Memory → ⊥ }
         ensures taken { OnOk result (TakesText bytes.now self.old.texts self.new.texts) }
         ensures none_held { OnErr result (HoldsNoText self.new.texts) }
+        ensures forgotten { IsTooLong (length bytes.now) self.old.texts → KnowsNoLength self.new.first self.new.second }
     {
+        self.forget_unless_room(bytes);
         match self.texts.show(self.rt, bytes) {
             Ok(()) => Ok(()),
             Err(_) => {
@@ -301,8 +306,8 @@ impl<'a, R: Files + Input + Print> Console for FileMachine<'a, R> {
         }
     }
 
-    /// It hands on what is held by one write call, and makes none where nothing is held. After Failed nothing is held any more. It takes no
-    /// memory.
+    /// It hands on what is held by one write call, and makes none where nothing is held. After Failed nothing is held any more. The next write
+    /// call of each file asks for its length again. It takes no memory.
     fn flush_display(&mut self) -> Result<(), ConsoleError>
         ensures displayed { OnOk result (HoldsNoText self.new.texts) }
         ensures same { OnOk result ((⟦<FileMachine<'a, R> as Tape>⟧.tape self.new) ≡ (⟦<FileMachine<'a, R> as Tape>⟧.tape self.old)) }
@@ -312,10 +317,12 @@ impl<'a, R: Files + Input + Print> Console for FileMachine<'a, R> {
         ensures only { IfErr result (λ error. error ≡ ConsoleError.Failed) }
         ensures told { IsTrue ⟦<FileMachine<'a, R> as Tape>⟧.told → IsOk result × ((⟦<FileMachine<'a, R> as Tape>⟧.tape self.new) ≡ (⟦<FileMachine<'a, R> as Tape>⟧.tape self.old)) }
 
-        // What is counted, and that nothing is held, whatever the answer.
+        // What is counted, and that nothing is held and no length known, whatever the answer.
         ensures fault { CountsFault (IsErrOf result ConsoleError.Failed) (⟦<FileMachine<'a, R> as Tape>⟧.tape self.old).show_faults (⟦<FileMachine<'a, R> as Tape>⟧.tape self.new).show_faults }
         ensures none_held { HoldsNoText self.new.texts }
+        ensures forgotten { KnowsNoLength self.new.first self.new.second }
     {
+        self.forget_lengths();
         match self.texts.hand_on(self.rt) {
             Ok(()) => Ok(()),
             Err(_) => {
@@ -334,6 +341,7 @@ where
 impl<'a, R: Files + Input + Print> FileMachine<'a, R> {
     ghost use Rattle.std.specs.Prelude.{◌≡◌};
     ghost use Rattle.disk_image.specs.Machines.{HasNoLine, IsUntouched, KnowsNoLength};
+    ghost use Rattle.disk_image.specs.Texts.{IsTooLong};
 
     /// A machine over the files of a pack of this shape, before its first call. Where the shape has two drives there is a second file.
     /// Where no memory is left for the sectors of the pack, none will be kept, and where none is left for texts, none will be held back.
@@ -374,6 +382,7 @@ impl<'a, R: Files + Input + Print> FileMachine<'a, R> {
         ensures forgotten { KnowsNoLength self.new.first self.new.second }
         ensures same { (⟦<FileMachine<'a, R> as Tape>⟧.tape self.new) ≡ (⟦<FileMachine<'a, R> as Tape>⟧.tape self.old) }
         ensures handed_on { ⟦<FileMachine<'a, R> as Tape>⟧.handed_on self.old → ⟦<FileMachine<'a, R> as Tape>⟧.handed_on self.new }
+        ensures same_texts { self.new.texts ≡ self.old.texts }
     {
         self.first.forget_length();
         if let Some(second) = &mut self.second {
@@ -388,6 +397,19 @@ impl<'a, R: Files + Input + Print> FileMachine<'a, R> {
         ensures handed_on { ⟦<FileMachine<'a, R> as Tape>⟧.handed_on self.old → ⟦<FileMachine<'a, R> as Tape>⟧.handed_on self.new }
     {
         if self.has_line() {
+            return;
+        }
+        self.forget_lengths();
+    }
+
+    /// Does so unless there is room for a text after those that are held back, so that it is held without a call.
+    fn forget_unless_room(&mut self, text: &[u8])
+        ensures forgotten { IsTooLong (length text.now) self.old.texts → KnowsNoLength self.new.first self.new.second }
+        ensures same { (⟦<FileMachine<'a, R> as Tape>⟧.tape self.new) ≡ (⟦<FileMachine<'a, R> as Tape>⟧.tape self.old) }
+        ensures handed_on { ⟦<FileMachine<'a, R> as Tape>⟧.handed_on self.old → ⟦<FileMachine<'a, R> as Tape>⟧.handed_on self.new }
+        ensures same_texts { self.new.texts ≡ self.old.texts }
+    {
+        if self.texts.has_room(text) {
             return;
         }
         self.forget_lengths();
@@ -441,8 +463,8 @@ where
         }
     }
 
-    /// Does what a sector command reads, and answers the first word that differs, if one does. What is held back of the file goes ahead where
-    /// it is read. The other drive's file isn't touched.
+    /// Does what a sector command reads, and answers the first word that differs, if one does. What is held back of the file goes ahead
+    /// where it is read. The other drive's file isn't touched.
     fn read_on_drive(
         &mut self,
         at: u16,
@@ -466,7 +488,8 @@ where
         self.read_from_file(at, plan, buf)
     }
 
-    /// Reads a whole sector that isn't kept. It stands apart from the reading of one that is, which then makes no call but that which copies.
+    /// Reads a whole sector that isn't kept. It stands apart from the reading of one that is, which then makes no call but the one that
+    /// copies.
     #[inline(never)]
     fn read_unkept(&mut self, at: u16, buf: &mut Sector) -> Result<(), DiskError>
         requires place { at < pages_of (⟦<FileMachine<'a, R> as Tape>⟧.tape self.old).form }
@@ -488,8 +511,9 @@ where
         }
     }
 
-    /// Does the same of a sector that isn't kept. It stands apart from the commands on what is kept, which are far more and would else clear
-    /// its memory each time.
+    /// Does what a sector command reads of a sector that isn't kept, from the file of its drive, and answers the first word that differs, if
+    /// one does. What is held back of the file goes ahead. It stands apart from the commands on what is kept, which are far more and would
+    /// else clear its memory each time.
     #[inline(never)]
     fn read_from_file(
         &mut self,
@@ -557,7 +581,7 @@ where
         ensures same { (⟦<FileMachine<'a, R> as Tape>⟧.tape self.new) ≡ (⟦<FileMachine<'a, R> as Tape>⟧.tape self.old) }
         ensures first { OnOk result (HoldsNone self.new.first.held) }
         ensures second { OnOk result (IfSome self.new.second (λ file. HoldsNone file.held)) }
-        ensures kept { HasNoLine self.old.keys_after self.old.keys → HasNoLine self.new.keys_after self.new.keys }
+        ensures no_line { HasNoLine self.old.keys_after self.old.keys → HasNoLine self.new.keys_after self.new.keys }
     {
         let first = self.first.hand_on();
         if let Some(second) = &mut self.second {
@@ -597,6 +621,7 @@ fn take_read_ahead<R: Read>(keys: &mut BufReader<R>, buf: &mut [u8]) -> usize
     ensures fits { result ≤ length buf.old }
     ensures taken { Consumes (reader_remaining R.remaining keys.old) (reader_remaining R.remaining keys.new) (take result buf.new) }
     ensures unbroken { IsUnbroken (take (result - 1) buf.new) }
+    ensures none { reader_buffer keys.old ≡ [] → result ≡ 0 }
 {
     let ready = keys.buffer();
     let most = ready.len().min(buf.len());

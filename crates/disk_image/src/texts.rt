@@ -48,6 +48,14 @@ impl HeldTexts {
         &self.buffer
     }
 
+    /// Whether there is room for these bytes after those that are held.
+    pub(crate) fn has_room(&self, bytes: &[u8]) -> bool
+        ensures room { IsTrue result → FitsAfter (length bytes.now) self.now }
+        ensures none { IsFalse result → IsTooLong (length bytes.now) self.now }
+    {
+        bytes.len() <= self.buffer.capacity() - self.buffer.len()
+    }
+
     /// Holds these bytes after those that are held. False, and then nothing changes: there is no room for them. It takes no memory.
     fn put(&mut self, bytes: &[u8]) -> bool
         ensures held { IsTrue result → held_text self.new ≡ held_text self.old ++ bytes.now }
@@ -55,8 +63,7 @@ impl HeldTexts {
         ensures refused { IsFalse result → self.new ≡ self.old }
         ensures too_long { IsFalse result → IsTooLong (length bytes.now) self.old }
     {
-        bytes.len() <= self.buffer.capacity() - self.buffer.len()
-            && self.buffer.extend_from_slice(bytes).is_ok()
+        self.has_room(bytes) && self.buffer.extend_from_slice(bytes).is_ok()
     }
 
     /// Holds nothing any more.

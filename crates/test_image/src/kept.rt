@@ -18,7 +18,7 @@ fn read_at<D: Disk>(machine: &mut D, at: u16) -> Result<Sector, DiskError> {
     if at >= machine.shape().pages() {
         return Err(DiskError::Failed);
     }
-    machine.run(at, Plan::READ, &mut memory)?;
+    machine.read_sector(at, &mut memory)?;
     Ok(memory)
 }
 
