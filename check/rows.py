@@ -249,6 +249,7 @@ ROWS = [
         2,
         [
             Boot("make A", "made #3"),
+            # the mark that a session leaves which is stopped after it wrote
             Set(4, {6: 2}),
             Boot("free", "pack not clean: mark 2", 2),
             Scavenge(report(3)),

@@ -353,7 +353,7 @@ const ROWS: [Row; 22] = [
                 shown: "done\n4142424445\n5 bytes\nbeyond length 5",
                 status: Status::Done,
             }),
-            Step::Call(Call {
+            Step::Unwritten(Call {
                 words: "boot",
                 typed: "patch #4 0 00\npatch #2 0 00\npatch #3 0 -\npatch #3 6 -",
                 shown: "no such name\nsystem file\ndone\nbeyond length 5",
