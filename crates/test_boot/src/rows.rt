@@ -347,6 +347,33 @@ const ROWS: [Row; 22] = [
                 shown: "made #3\nlength 5",
                 status: Status::Done,
             }),
+            // first the mark is written, and then the value of the file's page
+            Step::Cut("patch A 1 4242", 1),
+            Step::Call(Call {
+                words: "scavenge",
+                typed: "",
+                shown: "scavenged: files 3, freed 0, bad 0, adopted 0",
+                status: Status::Done,
+            }),
+            Step::Call(Call {
+                words: "boot",
+                typed: "type A",
+                shown: "4142434445\n5 bytes",
+                status: Status::Done,
+            }),
+            Step::Cut("patch A 1 4242", 2),
+            Step::Call(Call {
+                words: "scavenge",
+                typed: "",
+                shown: "scavenged: files 3, freed 0, bad 0, adopted 0",
+                status: Status::Done,
+            }),
+            Step::Call(Call {
+                words: "boot",
+                typed: "type A",
+                shown: "4142424445\n5 bytes",
+                status: Status::Done,
+            }),
             Step::Call(Call {
                 words: "boot",
                 typed: "patch #3 1 4242\ntype A\npatch A 4 4242",
