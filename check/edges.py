@@ -664,7 +664,12 @@ def check_shrinking_while_shown(program):
             # less than the text has, which is shown by one call: that call waits until more of it is read than its first byte
             fcntl.fcntl(process.stdout.fileno(), fcntl.F_SETPIPE_SZ, resource.getpagesize())
             process.stdin.write(typed)
-            shown = b"".join(process.stdout.read(1) for _ in range(len(replies) + 1))
+            shown = b""
+            while len(shown) <= len(replies) and select.select([process.stdout], [], [], SECONDS)[0]:
+                byte = process.stdout.read(1)
+                if not byte:
+                    break
+                shown += byte
             os.truncate(file, 100)
             out, err = process.communicate(timeout=SECONDS)
         found = (process.returncode, shown + out, err, file.stat().st_size)

@@ -390,7 +390,7 @@ impl<'a, R: Files + Input + Print> FileMachine<'a, R> {
         }
     }
 
-    /// Does so unless a line that was read ahead is there whole.
+    /// Knows the length of no file any longer, unless a line that was read ahead is there whole.
     fn forget_unless_line(&mut self)
         ensures forgotten { HasNoLine self.old.keys_after self.old.keys → KnowsNoLength self.new.first self.new.second }
         ensures same { (⟦<FileMachine<'a, R> as Tape>⟧.tape self.new) ≡ (⟦<FileMachine<'a, R> as Tape>⟧.tape self.old) }
@@ -402,7 +402,8 @@ impl<'a, R: Files + Input + Print> FileMachine<'a, R> {
         self.forget_lengths();
     }
 
-    /// Does so unless there is room for a text after those that are held back, so that it is held without a call.
+    /// Knows the length of no file any longer, unless there is room for a text after those that are held back: to show it makes no call
+    /// then.
     fn forget_unless_room(&mut self, text: &[u8])
         ensures forgotten { IsTooLong (length text.now) self.old.texts → KnowsNoLength self.new.first self.new.second }
         ensures same { (⟦<FileMachine<'a, R> as Tape>⟧.tape self.new) ≡ (⟦<FileMachine<'a, R> as Tape>⟧.tape self.old) }

@@ -50,8 +50,8 @@ impl HeldTexts {
 
     /// Whether there is room for these bytes after those that are held.
     pub(crate) fn has_room(&self, bytes: &[u8]) -> bool
-        ensures room { IsTrue result → FitsAfter (length bytes.now) self.now }
-        ensures none { IsFalse result → IsTooLong (length bytes.now) self.now }
+        ensures fits { IsTrue result → FitsAfter (length bytes.now) self.now }
+        ensures too_long { IsFalse result → IsTooLong (length bytes.now) self.now }
     {
         bytes.len() <= self.buffer.capacity() - self.buffer.len()
     }

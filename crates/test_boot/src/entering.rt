@@ -88,8 +88,8 @@ fn one_text_says_why(rt: HostRuntime) -> Result<(), Fail> {
     Ok(())
 }
 
-/// How a session over this pack ends in which this call fails: with nothing written, nothing shown, no key taken and none of its record writes
-/// counted, unless the call comes after those of the session.
+/// How a session over this pack ends in which this call fails: with nothing written, nothing shown, no key taken and none of the session's
+/// record writes counted, unless the call comes after those of the session.
 fn status_at(alloc: Global, shape: Shape, pack: &[Sector], fails: u64) -> Result<Status, Fail> {
     let keys = b"make A\n".to_vec(alloc)?;
     let mut machine = MemMachine::new(alloc, shape, pack.to_vec(alloc)?, keys)?;

@@ -347,8 +347,14 @@ const ROWS: [Row; 22] = [
                 shown: "made #3\nlength 5",
                 status: Status::Done,
             }),
-            // first the mark is written, and then the value of the file's page
-            Step::Cut("patch A 1 4242", 1),
+            // the mark is written first, alone, and then the value of the file's page: not the value ahead of the mark
+            Step::Cut("patch A 1 4343", 1),
+            Step::Unwritten(Call {
+                words: "boot",
+                typed: "free",
+                shown: "pack not clean: mark 2",
+                status: Status::NeedsScavenge,
+            }),
             Step::Call(Call {
                 words: "scavenge",
                 typed: "",
@@ -361,7 +367,7 @@ const ROWS: [Row; 22] = [
                 shown: "4142434445\n5 bytes",
                 status: Status::Done,
             }),
-            Step::Cut("patch A 1 4242", 2),
+            Step::Cut("patch A 1 4343", 2),
             Step::Call(Call {
                 words: "scavenge",
                 typed: "",
@@ -371,7 +377,7 @@ const ROWS: [Row; 22] = [
             Step::Call(Call {
                 words: "boot",
                 typed: "type A",
-                shown: "4142424445\n5 bytes",
+                shown: "4143434445\n5 bytes",
                 status: Status::Done,
             }),
             Step::Call(Call {
