@@ -2,8 +2,9 @@
 //
 // A pass over the pack that is the only one, as that of a listing, needs each sector once: so of the cylinders that were read once only
 // the one that was read last is kept, always in the same memory, which costs less than new memory for each. One that is read again, or
-// written while it is kept, is kept from then on: a session that makes files comes back to the cylinders that it writes. Memory for all
-// sectors of the pack is taken once, before the first is kept, and touched as it is needed. Where it is refused nothing is ever kept.
+// written while it is kept, is kept from then on, and once a sector was written so is each that is read: a session that makes files comes
+// back to the cylinders that it reads, and none is copied from one memory to the other. Memory for all sectors of the pack is taken once,
+// before the first is kept, and touched as it is needed. Where it is refused nothing is ever kept.
 ghost use Rattle.std.specs.Prelude.{◌≡◌, ◌≢◌, ℕ, ◌/◌, ◌<◌, ◌≤◌, length, None, IfOk, IsTrue};
 ghost use Rattle.std.specs.Option.{option_copied, option_map};
 ghost use Rattle.disk_image.specs.declared.kept.Place.TheVariants.{Passing, Staying};
@@ -20,7 +21,7 @@ use std::alloc::Global;
 pub(crate) enum Reads {
     Never,
     Once,
-    /// More often, or once and then written.
+    /// More often, or once and then written, or once after a write.
     Often,
 }
 
@@ -29,23 +30,25 @@ pub(crate) enum Reads {
 pub(crate) enum Place {
     /// It isn't kept.
     Nowhere,
-    /// With the cylinder that was read last of those that were read once.
+    /// With the cylinder that passes: the one that was read last of those that were read once, before any write.
     Passing,
-    /// With the cylinders that were read more often or written.
+    /// With the cylinders that stay.
     Staying,
 }
 
 /// The sectors that are kept of a pack, each at its virtual address: those of the cylinder that was read last of those that were read
-/// once, and those of each cylinder that was read again, or written while it was kept.
+/// once, before any write, and those of each cylinder that was read again, or written while it was kept, or read after a write.
 #[derive(Drop)]
 pub(crate) struct KeptSectors {
     // how often each cylinder was read
     reads: Vec<Reads>,
-    // the cylinder that was read last of those that were read once, and its sectors from 0 on
+    // the cylinder that passes, and its sectors from 0 on
     latest: u16,
     passing: SectorTable,
-    // the sectors of cylinders that were read more often or written
+    // the sectors of cylinders that stay
     staying: SectorTable,
+    // whether a sector was written
+    is_written: bool,
 }
 
 impl KeptSectors {
@@ -60,6 +63,7 @@ impl KeptSectors {
                 latest: 0,
                 passing: SectorTable::new(alloc),
                 staying: SectorTable::new(alloc),
+                is_written: false,
             },
         }
     }
@@ -74,6 +78,7 @@ impl KeptSectors {
             latest: 0,
             passing: SectorTable::with_room(alloc, CYLINDER_SECTORS)?,
             staying: SectorTable::with_room(alloc, shape.pages())?,
+            is_written: false,
         })
     }
 
@@ -115,16 +120,18 @@ impl KeptSectors {
             && (cylinder as usize + 1) * sectors <= self.staying.room()
     }
 
-    /// Keeps the sectors of a cylinder, as these bytes say. No memory is taken.
+    /// Keeps the sectors of a cylinder, as these bytes say: from now on, unless it is read for the first time and none was written. No memory
+    /// is taken.
     pub(crate) fn keep_cylinder(&mut self, cylinder: u16, bytes: &[u8])
         requires room { HasRoom self.old cylinder }
         requires length { length bytes.now ≡ 12768 }
         ensures { KeepsCylinder cylinder bytes.now self.old self.new }
     {
-        match self.reads[cylinder as usize] {
-            Reads::Never => self.let_pass(cylinder, bytes),
-            Reads::Once => self.let_stay(cylinder, bytes),
-            Reads::Often => self.let_stay(cylinder, bytes),
+        let is_first = self.reads[cylinder as usize] == Reads::Never;
+        if is_first && !self.is_written {
+            self.let_pass(cylinder, bytes);
+        } else {
+            self.let_stay(cylinder, bytes);
         }
     }
 
@@ -182,6 +189,7 @@ impl KeptSectors {
         ensures here { kept_at self.new at ≡ option_map (λ kept. sector.now) (kept_at self.old at) }
         ensures others { (k : ℕ) → k ≢ at → kept_at self.new k ≡ kept_at self.old k }
     {
+        self.is_written = true;
         match self.place_to_write(at) {
             Place::Nowhere => {}
             Place::Passing => self.passing.replace(at % CYLINDER_SECTORS, sector),

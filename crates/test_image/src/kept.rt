@@ -68,6 +68,23 @@ fn a_cylinder_that_is_read_again_stays(rt: HostRuntime) -> Result<(), Fail> {
 }
 
 #[test]
+fn a_cylinder_that_is_read_after_a_write_stays(rt: HostRuntime) -> Result<(), Fail> {
+    let ones = filled(0x0101, 0x0101, 0x0101);
+    let mut machine = FileMachine::create(&rt, rt.alloc(), "after", 3)?;
+    fs::write(&rt, "after", bytes_of(rt.alloc(), 1, 38_304)?.as_slice())?;
+    machine.run(1, Plan::WRITE_ALL, &mut filled(7, 8, 9))?;
+    // the last cylinder doesn't take the place of the second one
+    assert!(rt; read_at(&mut machine, 24) == Ok(ones));
+    assert!(rt; read_at(&mut machine, 48) == Ok(ones));
+    fs::write(&rt, "after", bytes_of(rt.alloc(), 2, 38_304)?.as_slice())?;
+    for at in 24u16..72 {
+        assert!(rt; read_at(&mut machine, at) == Ok(ones), "{at}");
+    }
+    fs::remove_file(&rt, "after")?;
+    Ok(())
+}
+
+#[test]
 fn a_cylinder_that_is_written_stays(rt: HostRuntime) -> Result<(), Fail> {
     let ones = filled(0x0101, 0x0101, 0x0101);
     let mut machine = FileMachine::create(&rt, rt.alloc(), "stays", 2)?;
