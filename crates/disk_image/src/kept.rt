@@ -1,13 +1,12 @@
 // What is kept in memory of the sectors of a pack.
 //
 // A pass over the pack that is the only one, as that of a listing, needs each sector once: so of the cylinders that were read once only
-// the one that was read last is kept, always in the same memory, which costs less than new memory for each. One that is read again, or
-// written while it is kept, is kept from then on, and once a sector was written so is each that is read: a session that makes files comes
-// back to the cylinders that it reads, and none is copied from one memory to the other. Memory for all sectors of the pack is taken once,
-// before the first is kept, and touched as it is needed. Where it is refused nothing is ever kept.
-ghost use Rattle.std.specs.Prelude.{◌≡◌, ◌≢◌, ℕ, ◌/◌, ◌<◌, ◌≤◌, length, None, IfOk, IsTrue};
+// the one that was read last is kept, always in the same memory, which costs less than new memory for each. One that is read again is
+// kept from then on. Once a sector was written each one that is read is, and none takes the place of another: a session that makes files
+// comes back to the cylinders that it reads. Memory for all sectors of the pack is taken once, before the first is kept, and touched as it
+// is needed. Where it is refused nothing is ever kept.
+ghost use Rattle.std.specs.Prelude.{◌≡◌, ◌≢◌, ℕ, length, None, IfOk, IsTrue};
 ghost use Rattle.std.specs.Option.{option_copied, option_map};
-ghost use Rattle.disk_image.specs.declared.kept.Place.TheVariants.{Passing, Staying};
 ghost use Rattle.disk_image.specs.Kept.{kept_at, place_of, HasRoom, KeepsCylinder};
 
 use crate::spot::CYLINDER_SECTORS;
@@ -21,7 +20,7 @@ use std::alloc::Global;
 pub(crate) enum Reads {
     Never,
     Once,
-    /// More often, or once and then written, or once after a write.
+    /// More often, or after a write.
     Often,
 }
 
@@ -37,7 +36,7 @@ pub(crate) enum Place {
 }
 
 /// The sectors that are kept of a pack, each at its virtual address: those of the cylinder that was read last of those that were read
-/// once, before any write, and those of each cylinder that was read again, or written while it was kept, or read after a write.
+/// once, before any write, and those of each cylinder that was read again or after a write.
 #[derive(Drop)]
 pub(crate) struct KeptSectors {
     // how often each cylinder was read
@@ -120,8 +119,8 @@ impl KeptSectors {
             && (cylinder as usize + 1) * sectors <= self.staying.room()
     }
 
-    /// Keeps the sectors of a cylinder, as these bytes say: from now on, unless it is read for the first time and none was written. No memory
-    /// is taken.
+    /// Keeps the sectors of a cylinder, as these bytes say: from now on, unless it is read for the first time, before any write. No memory is
+    /// taken.
     pub(crate) fn keep_cylinder(&mut self, cylinder: u16, bytes: &[u8])
         requires room { HasRoom self.old cylinder }
         requires length { length bytes.now ≡ 12768 }
@@ -157,40 +156,14 @@ impl KeptSectors {
         self.reads[cylinder as usize] = Reads::Often;
     }
 
-    /// Where a sector that is written may be kept. Its cylinder, if it is passing and there is memory for that, stays from now on.
-    fn place_to_write(&mut self, at: u16) -> Place
-        ensures place { result ≡ place_of self.new at }
-        ensures same { (k : ℕ) → kept_at self.new k ≡ kept_at self.old k }
-    {
-        let place = self.place_of(at);
-        if place == Place::Passing && self.has_room(at / CYLINDER_SECTORS) {
-            self.let_passing_stay(at);
-            return Place::Staying;
-        }
-        place
-    }
-
-    /// Keeps the sectors of the cylinder that is passing, which this one is of, from now on.
-    fn let_passing_stay(&mut self, at: u16)
-        requires passing { place_of self.old at ≡ Passing }
-        requires room { HasRoom self.old (at / 24) }
-        ensures staying { place_of self.new at ≡ Staying }
-        ensures same { (k : ℕ) → kept_at self.new k ≡ kept_at self.old k }
-    {
-        let cylinder = at as usize / CYLINDER_SECTORS as usize;
-        self.staying
-            .put_from(cylinder * CYLINDER_SECTORS as usize, &self.passing);
-        self.reads[cylinder] = Reads::Often;
-    }
-
-    /// Keeps this sector in the place of the one that is kept at this virtual address, if one is. If it was kept with the cylinder that
-    /// is passing, and there is memory for that, the cylinder stays from now on.
+    /// Keeps this sector, which was written, in the place of the one that is kept at this virtual address, if one is. What is kept by now
+    /// stays.
     pub(crate) fn replace(&mut self, at: u16, sector: &Sector)
         ensures here { kept_at self.new at ≡ option_map (λ kept. sector.now) (kept_at self.old at) }
         ensures others { (k : ℕ) → k ≢ at → kept_at self.new k ≡ kept_at self.old k }
     {
         self.is_written = true;
-        match self.place_to_write(at) {
+        match self.place_of(at) {
             Place::Nowhere => {}
             Place::Passing => self.passing.replace(at % CYLINDER_SECTORS, sector),
             Place::Staying => self.staying.replace(at, sector),

@@ -2,7 +2,7 @@
 //
 // Sectors that were read are kept in memory (kept.rt), and a sector command on one that is kept makes no read call. Else it goes to the
 // sector's cylinder, in the file of its drive, makes one read call for all of it, and keeps it: until another cylinder is read for the
-// first time, or for good where it was read before, is written while it is kept, or is read after a write. Where there is no memory for that, or the cylinder
+// first time, before any write, or for good where it was read before or a sector was written. Where there is no memory for that, or the cylinder
 // can't be read whole, it goes to the sector and makes one read call for the records before its first Write. A command that begins with
 // a Write reads nothing. To go to a place makes no call: each read and write call names its place (placed.rt).
 //
@@ -77,9 +77,9 @@ const MOST_TRIES: u64 = u64::MAX;
 /// shape and its counts, and nothing of what the files, the keys and the display hold. The last record writes may be held back until
 /// `flush`, and the last texts that were shown until `flush_display`. Each fault of the outside, as a read past a file's end, raises the
 /// count of its device by one and is answered by Failed; a count stands at 2^64 - 1 once there. Without faults each cylinder is read twice
-/// at most. From the second time on, or from the first one that comes after a write, or once it is written while it is kept, it stays in
-/// memory for all sectors of the pack that is taken as the machine is made; where that memory is refused, each sector is read from its file
-/// each time. No call takes memory, and a sector that is kept meets no fault of a read.
+/// at most. One that was read twice, or is kept or read once a sector was written, stays in memory for all sectors of the pack, which is
+/// taken as the machine is made; where that memory is refused, each sector is read from its file each time. No call takes memory, and a
+/// sector that is kept meets no fault of a read.
 #[derive(Drop)]
 pub struct FileMachine<'a, R: Files + Input + Print> {
     rt: &'a R,
