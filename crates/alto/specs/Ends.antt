@@ -12,6 +12,7 @@ use Rattle.alto.specs.declared.end.Complaint.TheVariants as complaint
 abbrev pub code_of : Stop → ℕ
 code_of stop.Words = 1
 code_of (stop.Pack reach.NoFile) = 8
+code_of (stop.Pack reach.InUse) = 8
 code_of (stop.Pack (reach.BadLength bytes)) = 8
 code_of (stop.Pack (reach.Unlike first second)) = 8
 code_of (stop.Pack reach.Memory) = 6
@@ -22,6 +23,7 @@ code_of stop.Memory = 6
 abbrev pub complaint_of : Stop → Option Complaint
 complaint_of stop.Words = Some complaint.Usage
 complaint_of (stop.Pack reach.NoFile) = Some (complaint.Pack reach.NoFile)
+complaint_of (stop.Pack reach.InUse) = Some (complaint.Pack reach.InUse)
 complaint_of (stop.Pack (reach.BadLength bytes)) = Some (complaint.Pack (reach.BadLength bytes))
 complaint_of (stop.Pack (reach.Unlike first second)) = Some (complaint.Pack (reach.Unlike first second))
 complaint_of (stop.Pack reach.Memory) = None

@@ -8,8 +8,8 @@ use disk_image::ReachError;
 use std::alloc::AllocError;
 use thiserror::Error;
 
-/// The exit code of a run without a session for its pack files: one wasn't reached or made, or two are unlike. The others are those of
-/// statuses.
+/// The exit code of a run without a session for its pack files: one wasn't reached or made, or is in use, or two are unlike. The others are
+/// those of statuses.
 const NO_PACK: u8 = 8;
 
 /// What ends a run that has no session.
@@ -44,6 +44,7 @@ impl Stop {
         match self {
             Stop::Words => Status::Usage as u8,
             Stop::Pack(ReachError::NoFile) => NO_PACK,
+            Stop::Pack(ReachError::InUse) => NO_PACK,
             Stop::Pack(ReachError::BadLength { .. }) => NO_PACK,
             Stop::Pack(ReachError::Unlike { .. }) => NO_PACK,
             Stop::Pack(ReachError::Memory) => Status::Memory as u8,

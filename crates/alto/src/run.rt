@@ -11,7 +11,7 @@ use crate::end::Stop;
 use crate::help::help_text;
 use crate::top::{Alto, Runs};
 use alto_top::Status;
-use disk_image::{FileMachine, ReachError};
+use disk_image::{FileMachine, Lockable, ReachError};
 use disk_records::Tape;
 use std::env;
 use std::io::{ErrorKind, Input};
@@ -43,11 +43,14 @@ fn print_help<R: Print + AllocGlobal>(rt: &R) -> Result<Status, Stop>
 }
 
 /// The machine that a command line asks for: over two drives where it names a PACK2, and over new pack files where it names a number of
-/// cylinders, else over those that are there.
+/// cylinders, else over those that are there, which are opened for reading alone unless the words may write.
 fn machine_of<'a, R: Files + Input + Print + AllocGlobal>(
     rt: &'a R,
     call: Call<'_>,
+    may_write: bool,
 ) -> Result<FileMachine<'a, R>, ReachError>
+where
+    R::File: Lockable,
     requires range { HasRange call }
     ensures untouched { IfOk result (λ machine. IsUntouched (⟦<FileMachine<'a, R> as Tape>⟧.tape machine)) }
     ensures handed_on { IfOk result (λ machine. ⟦<FileMachine<'a, R> as Tape>⟧.handed_on machine) }
@@ -62,8 +65,16 @@ fn machine_of<'a, R: Files + Input + Print + AllocGlobal>(
             FileMachine::create_two(rt, alloc, path, second, cylinders)
         }
         (Some(cylinders), None) => FileMachine::create(rt, alloc, path, cylinders),
-        (None, Some(second)) => FileMachine::reach_two(rt, alloc, path, second),
-        (None, None) => FileMachine::reach(rt, alloc, path),
+        (None, Some(second)) => if may_write {
+            FileMachine::reach_two(rt, alloc, path, second)
+        } else {
+            FileMachine::reach_two_to_read(rt, alloc, path, second)
+        },
+        (None, None) => if may_write {
+            FileMachine::reach(rt, alloc, path)
+        } else {
+            FileMachine::reach_to_read(rt, alloc, path)
+        },
     }
 }
 
@@ -76,11 +87,11 @@ fn run_call<R: Files + Input + Print + AllocGlobal, C: Clock, T: Runs>(
     call: Call<'_>,
 ) -> Result<Status, Stop>
 where
-    R::File: FileExt,
+    R::File: FileExt + Lockable,
     requires range { HasRange call }
     ensures end { IsCallEnd call.entry.cylinders (is_some call.entry.second) (map string_bytes call.entry.words.now) result }
 {
-    let mut machine = machine_of(rt, call)?;
+    let mut machine = machine_of(rt, call, top.may_write(call.words))?;
     Ok(top.run(rt.alloc(), call.words, read_moment(clock), &mut machine))
 }
 
@@ -92,7 +103,7 @@ pub fn run_words<R: Files + Input + Print + AllocGlobal, C: Clock, T: Runs>(
     words: &[String],
 ) -> Result<Status, Stop>
 where
-    R::File: FileExt,
+    R::File: FileExt + Lockable,
     ensures faulty { IsErrOf result Stop.Words ↔ IsFaulty (map string_bytes words.now) }
     ensures end { IsEnd (map string_bytes words.now) result }
 {
@@ -106,7 +117,7 @@ where
 /// Does what the words that the program was started with ask for.
 pub fn run<R: Runtime + AllocGlobal>(rt: &R) -> Result<Status, Stop>
 where
-    R::File: FileExt,
+    R::File: FileExt + Lockable,
 {
     let args = read_args(rt)?;
     run_words(rt, rt, &Alto, words_after_name(&args))

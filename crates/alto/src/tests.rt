@@ -54,6 +54,7 @@ fn exit_codes_and_texts(rt: HostRuntime) -> Result<(), Fail> {
         (Ok(Status::CannotScavenge), 7, None),
         (Err(Stop::Words), 1, Some("usage")),
         (Err(Stop::Pack(ReachError::NoFile)), 8, Some("no pack")),
+        (Err(Stop::Pack(ReachError::InUse)), 8, Some("pack in use")),
         (Err(Stop::Pack(bad_length)), 8, Some("bad length 25535")),
         (Err(Stop::Pack(unlike)), 8, Some("unlike packs 25536 38304")),
         (Err(Stop::Pack(ReachError::Memory)), 6, None),
@@ -118,6 +119,10 @@ struct Noting {
 }
 
 impl Runs for Noting {
+    fn may_write(&self, _: &[String]) -> bool {
+        true
+    }
+
     fn run<M: Machine>(&self, _: Global, _: &[String], moment: u32, _: &mut M) -> Status {
         self.calls.set(self.calls.get().saturating_add(1));
         self.moment.set(moment);
@@ -203,6 +208,10 @@ struct Marking {
 }
 
 impl Runs for Marking {
+    fn may_write(&self, _: &[String]) -> bool {
+        true
+    }
+
     fn run<M: Machine>(&self, _: Global, _: &[String], _: u32, machine: &mut M) -> Status {
         let mut memory = filled(9);
         if machine.shape().pages() > 0 && machine.run(0, READ_ALL, &mut memory).is_ok() {

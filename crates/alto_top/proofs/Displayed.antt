@@ -1,9 +1,10 @@
 -- A call, after which what the display holds back is handed on.
 use Rattle.std.proofs.Common.{List, ℕ, inl, inr, arith, subst, sym, ◌∙◌}
 use Rattle.disk_records.proofs.Growing.{grown_twice}
-use Rattle.disk_records.specs.Causes.{Cause, IsCause, disk, display, keyboard, never, other}
+use Rattle.disk_records.specs.Causes.{Cause, IsCause, Unfailed, disk, display, keyboard, never, other}
 use Rattle.disk_records.specs.Tapes.{Grown, ShowAlone, Taped}
-use Rattle.session_boot.specs.Faults.{HasStatusCause, UnlessStopped, cause_of_status}
+use Rattle.session_boot.specs.Faults.{HasStatusCause, NoFault, UnlessStopped, cause_of_status}
+use Rattle.session_boot.proofs.Unfailing.{none_twice}
 use Rattle.session_boot.specs.declared.status.Status.{Status}
 use Rattle.session_boot.specs.declared.status.Status.TheVariants as status
 use Rattle.alto_top.specs.Faults.{Concludes, IsSameOrUnseen}
@@ -58,12 +59,12 @@ answers_on words disks a b meant answer answers same =
     ]
 
 -- ---- how it ends
-cause_on : (k : Cause) (a b c : Taped) → Grown b c → IsCause a b k → IsCause a c k
-cause_on disk a b c grown h = let more = grown.disk_faults in omega (arith, more, h)
-cause_on keyboard a b c grown h = let more = grown.key_faults in omega (arith, more, h)
-cause_on display a b c grown h = let more = grown.show_faults in omega (arith, more, h)
-cause_on other a b c grown h = tt
-cause_on never a b c grown h = h
+cause_on : (k : Cause) (a b c : Taped) → Grown b c → Unfailed b c → IsCause a b k → IsCause a c k
+cause_on disk a b c grown none h = let more = grown.disk_faults in omega (arith, more, h)
+cause_on keyboard a b c grown none h = let more = grown.key_faults in omega (arith, more, h)
+cause_on display a b c grown none h = let more = grown.show_faults in omega (arith, more, h)
+cause_on other a b c grown none h = none ∙ h
+cause_on never a b c grown none h = h
 
 both_held : (A B C : Type 0) (s : Status) → (A → B) → UnlessStopped s A → UnlessStopped s C → UnlessStopped s (B × C)
 both_held A B C status.Done keeps a c = (keeps a, c)
@@ -75,12 +76,23 @@ both_held A B C status.DisplayFault keeps a c = tt
 both_held A B C status.Memory keeps a c = tt
 both_held A B C status.CannotScavenge keeps a c = (keeps a, c)
 
+both_unfailed : (a b c : Taped) (s : Status) → UnlessStopped s (NoFault a b) → UnlessStopped s (NoFault b c) → UnlessStopped s (NoFault a c)
+both_unfailed a b c status.Done one two = none_twice one two
+both_unfailed a b c status.Usage one two = none_twice one two
+both_unfailed a b c status.NeedsScavenge one two = none_twice one two
+both_unfailed a b c status.DiskFault one two = tt
+both_unfailed a b c status.KeyFault one two = tt
+both_unfailed a b c status.DisplayFault one two = tt
+both_unfailed a b c status.Memory one two = tt
+both_unfailed a b c status.CannotScavenge one two = none_twice one two
+
 -- what was handed on stays so, and what was shown is handed on too
-pub concludes_on : (A B C : Type 0) (a b c : Taped) (meant answer : Status) → Grown a b → Grown b c → Concludes A a b meant → IsSameOrUnseen b c meant answer → (A → B) → UnlessStopped answer C → Concludes (B × C) a c answer
-concludes_on A B C a b c meant answer one two ends same keeps shown =
+pub concludes_on : (A B C : Type 0) (a b c : Taped) (meant answer : Status) → Grown a b → ShowAlone b c → Concludes A a b meant → IsSameOrUnseen b c meant answer → UnlessStopped answer (NoFault b c) → (A → B) → UnlessStopped answer C → Concludes (B × C) a c answer
+concludes_on A B C a b c meant answer one two ends same unfailed keeps shown =
     elim same [
       | inl is ↦ record {
-        cause = subst (HasStatusCause a c) (sym is) (cause_on (cause_of_status meant) a b c two ends.cause);
+        cause = subst (HasStatusCause a c) (sym is) (cause_on (cause_of_status meant) a b c two.grown two.disk_faults ends.cause);
+        unfailed = both_unfailed a b c answer (subst (λ s. UnlessStopped s (NoFault a b)) (sym is) ends.unfailed) unfailed;
         handed_on = both_held A B C answer keeps (subst (λ s. UnlessStopped s A) (sym is) ends.handed_on) shown;
       }
       | inr failed ↦
@@ -88,6 +100,7 @@ concludes_on A B C a b c meant answer one two ends same keeps shown =
           let rose = failed.rose in
           record {
             cause = subst (HasStatusCause a c) (sym failed.fault) (omega (arith, less, rose));
+            unfailed = subst (λ s. UnlessStopped s (NoFault a c)) (sym failed.fault) tt;
             handed_on = subst (λ s. UnlessStopped s (B × C)) (sym failed.fault) tt;
           }
     ]

@@ -5,7 +5,8 @@ use Rattle.std.proofs.lemmas.Bool.{cases_lt}
 use Rattle.std.proofs.lemmas.List.{take-append-le, take_all}
 use Rattle.disk_records.specs.declared.records.Event.{Event}
 use Rattle.disk_records.specs.declared.records.Event.TheVariants.{Shown}
-use Rattle.disk_records.specs.Causes.{IsCause, of_display}
+use Rattle.disk_records.specs.Causes.{IsCause, Unfailed, of_display}
+use Rattle.disk_records.specs.Frames.{IsUsableSector, WritesIn}
 use Rattle.disk_records.specs.Events.{IsFirstOf, shown_bytes, shown_events, writes_in}
 use Rattle.disk_records.specs.Packs.{Pack, after, crash}
 use Rattle.disk_records.specs.Tapes.{DiskAlone, Grown, Rose, ShowAlone, Taped, added, pack}
@@ -56,8 +57,8 @@ refused p (error.PackFull least most) text answers is = ((pack_full least most, 
 refused p error.DiskFault text answers is = absurd is
 refused p error.Memory text answers is = absurd is
 
-pub writes_of_scavenge : {x y : Taped} {result : Result Report ScavError} → Scavenges x y result → WritesScavenge (pack x) (added x y)
-writes_of_scavenge s = record { does = s.writes; silent = s.silent; safe = s.safe }
+pub writes_of_scavenge : {x y : Taped} {result : Result Report ScavError} → Scavenges x y result → WritesIn (IsUsableSector (pack x)) (added x y) → WritesScavenge (pack x) (added x y)
+writes_of_scavenge s frame = record { does = s.writes; silent = s.silent; safe = s.safe; opens = s.opens; frame = frame }
 
 -- ---- bytes that are shown after record writes
 -- a prefix of shown bytes is one of bytes
@@ -161,7 +162,7 @@ disk_cause : (x y : Taped) (fault : Fault) → DiskFaultCause x y fault → HasS
 disk_cause x y Disk cause = cause
 disk_cause x y Key cause = absurd cause
 disk_cause x y Display cause = absurd cause
-disk_cause x y Memory cause = tt
+disk_cause x y Memory cause = cause
 
 silent_fault : (x y : Taped) (p : Pack) (writes : List Event) (fault : Fault) → DiskFaultCause x y fault → TellsScavenge p writes [] (status_of fault)
 silent_fault x y p writes Disk cause = refl
@@ -180,9 +181,9 @@ memory_is_no_display is = cc
 abbrev pub ShowFaultCause : Taped → Taped → Fault → Type 0
 ShowFaultCause old new fault = IsCause old new (of_display (cause_of_fault fault))
 
-told_cause : (x z : Taped) (tells : Told) → HasStatusCause x z (status_in tells)
-told_cause x z (told.Report text) = tt
-told_cause x z (told.Refusal text) = tt
+told_cause : (x z : Taped) (tells : Told) → Unfailed x z → HasStatusCause x z (status_in tells)
+told_cause x z (told.Report text) none = none
+told_cause x z (told.Refusal text) none = none
 
 told_tells : (p : Pack) (writes : List Event) (shown : List ℕ) (tells : Told) → IsToldOf p writes tells → shown ≡ scavenge_text p → TellsScavenge p writes shown (status_in tells)
 told_tells p writes shown (told.Report text) so is = (so, is)
@@ -192,7 +193,7 @@ either : (p : Pack) (writes : List Event) (shown : List ℕ) (tells : Told) → 
 either p writes shown (told.Report text) so = inl so
 either p writes shown (told.Refusal text) so = inr so
 
-module _ {x y z : Taped} (tells : Told) (alone : DiskAlone x y) (does : ScavengesDisk x y (Ok tells)) (next : ShowAlone y z) (text : List ℕ) (is : text ≡ text_in tells) (result : Result (Unit {0}) Fault) (shown : ShownAll text y z result) where
+module _ {x y z : Taped} (tells : Told) (alone : DiskAlone x y) (none_came : Unfailed x y) (does : ScavengesDisk x y (Ok tells)) (next : ShowAlone y z) (text : List ℕ) (is : text ≡ text_in tells) (result : Result (Unit {0}) Fault) (shown : ShownAll text y z result) where
   same_text : text ≡ scavenge_text (pack x)
   same_text = is ∙ does.tells.1
 
@@ -204,11 +205,11 @@ module _ {x y z : Taped} (tells : Told) (alone : DiskAlone x y) (does : Scavenge
 
   -- it was shown whole
   pub told_whole : added y z ≡ shown_events text → ScavengesPack x z (status_in tells)
-  told_whole all = so (status_in tells) (told_cause x z tells) (told_tells (pack x) (added x y) (shown_bytes (added y z)) tells does.tells.0 (ap shown_bytes all ∙ shown-events text ∙ same_text))
+  told_whole all = so (status_in tells) (told_cause x z tells (next.disk_faults ∙ none_came)) (told_tells (pack x) (added x y) (shown_bytes (added y z)) tells does.tells.0 (ap shown_bytes all ∙ shown-events text ∙ same_text))
 
   -- the display failed, or no memory was left
   pub told_short : (fault : Fault) → ShowFaultCause y z fault → (fault ≢ Display → added y z ≡ []) → ScavengesPack x z (status_of fault)
   told_short Disk cause none = absurd cause
   told_short Key cause none = absurd cause
   told_short Display cause none = so status.DisplayFault (subst (λ n. Rose n z.show_faults) alone.show_faults cause) (either (pack x) (added x y) (shown_bytes (added y z)) tells does.tells.0)
-  told_short Memory cause none = so status.Memory tt (ap shown_bytes (none memory_is_no_display))
+  told_short Memory cause none = so status.Memory (next.disk_faults ∙ none_came) (ap shown_bytes (none memory_is_no_display))

@@ -6,7 +6,7 @@ use Rattle.disk_descriptor.specs.declared.errors.FormatError.{FormatError}
 use Rattle.disk_descriptor.specs.declared.errors.FormatError.TheVariants as formatting
 use Rattle.pack_reading.specs.declared.error.ReadingError.{ReadingError}
 use Rattle.pack_reading.specs.declared.error.ReadingError.TheVariants as reading
-use Rattle.session_boot.specs.Faults.{HasStatusCause, UnlessStopped, cause_of_fault}
+use Rattle.session_boot.specs.Faults.{HasStatusCause, NoFault, UnlessStopped, cause_of_fault}
 use Rattle.session_boot.specs.declared.status.Fault.{Fault}
 use Rattle.session_boot.specs.declared.status.Fault.TheVariants.{Disk, Memory}
 use Rattle.session_boot.specs.declared.status.Status.{Status}
@@ -38,7 +38,8 @@ abbrev pub IsSameOrUnseen : Taped → Taped → Status → Status → Type 0
 IsSameOrUnseen old new meant answer = (answer ≡ meant) ⊎ IsUnseen old new meant answer
 
 -- How what was asked for ends: a fault is answered only where the count of its device rose, or stands at its end; and unless a fault or out
--- of memory is answered, this holds of the machine as it is left: nothing is held back.
+-- of memory is answered, no fault of a device came, and this holds of the machine as it is left: nothing is held back.
 pub record Concludes (none_held : Type 0) (old new : Taped) (answer : Status) : Type 0 where
   pub cause : HasStatusCause old new answer
+  pub unfailed : UnlessStopped answer (NoFault old new)
   pub handed_on : UnlessStopped answer none_held

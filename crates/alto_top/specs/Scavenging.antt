@@ -4,6 +4,7 @@ use Rattle.std.specs.Prelude.{◌≡◌, ◌⊎◌, ℕ, List, [], ◌++◌, cod
 use Rattle.std.specs.declared.alloc.Global.{Global}
 use Rattle.disk_records.specs.declared.records.Event.{Event}
 use Rattle.disk_records.specs.Events.{IsFirstOf, shown_bytes, shown_events}
+use Rattle.disk_records.specs.Frames.{IsUsableSector, WritesIn}
 use Rattle.disk_records.specs.Packs.{Pack}
 use Rattle.disk_records.specs.Tapes.{Taped, added, pack}
 use Rattle.exec_words.specs.Texts.{line_of, report_text, spaced, with_number}
@@ -13,7 +14,7 @@ use Rattle.pack_model.specs.scavenger.Scavenging.Refusal.{root_bad, root_taken, 
 use Rattle.scavenger.specs.declared.errors.ScavError.{ScavError}
 use Rattle.scavenger.specs.declared.errors.ScavError.TheVariants as error
 use Rattle.scavenger.specs.Answers.{refusal_in}
-use Rattle.scavenger.specs.Runs.{EndsIt, ScavengeWrites}
+use Rattle.scavenger.specs.Runs.{EndsIt, OpensMark, ScavengeWrites}
 use Rattle.scavenger.specs.Scavenges.{IsSafe}
 use Rattle.session_boot.specs.Boots.{NoneRose}
 use Rattle.session_boot.specs.declared.status.Fault.{Fault}
@@ -40,9 +41,17 @@ unfoldable pub scavenge_text : Pack → List ℕ
 scavenge_text p = told_text p (first_refusal p)
 
 -- ---- the text of an error: none after a fault, or out of memory
+-- no fault of the disk
+abbrev pub IsNoDiskFault : ScavError → Type 0
+IsNoDiskFault (error.RootBad header) = Unit {0}
+IsNoDiskFault (error.RootTaken found) = Unit {0}
+IsNoDiskFault (error.PackFull needed free) = Unit {0}
+IsNoDiskFault error.DiskFault = ⊥
+IsNoDiskFault error.Memory = Unit {0}
+
 abbrev pub FaultOf : ScavError → Fault → Type 0
 FaultOf e Disk = e ≡ error.DiskFault
-FaultOf e Memory = Unit {0}
+FaultOf e Memory = IsNoDiskFault e
 FaultOf e Key = ⊥
 FaultOf e Display = ⊥
 
@@ -81,11 +90,15 @@ abbrev pub TellsOf : Pack → List Event → Result Told Fault → Type 0
 TellsOf p writes (Ok tells) = IsToldOf p writes tells × (text_in tells ≡ scavenge_text p)
 TellsOf p writes (Err fault) = Unit {0}
 
--- The record writes, whatever is answered: those of a scavenge, none of a pack that is refused, and each crash point is safe.
+-- The record writes, whatever is answered: those of a scavenge, none of a pack that is refused, and each crash point is safe. The first one
+-- opens the mark as a session does. Each is of a label or a value in a sector that was usable: sector 0, sectors with a wrong header and all
+-- headers stay.
 pub record WritesScavenge (p : Pack) (writes : List Event) : Type 0 where
   pub does : ScavengeWrites p writes
   pub silent : (refusal : Refusal) → first_refusal p ≡ Some refusal → writes ≡ []
   pub safe : (k : ℕ) → IsSafe p writes k
+  pub opens : OpensMark p writes
+  pub frame : WritesIn (IsUsableSector p) writes
 
 -- of a call that is given the disk alone
 pub record ScavengesDisk (old new : Taped) (result : Result Told Fault) : Type 0 where

@@ -1,9 +1,11 @@
 -- The command line: what its words ask for.
 use Rattle.std.specs.Prelude.{◌≡◌, ◌≢◌, ◌⊎◌, ◌&&◌, ℕ, cond, nat_le, List, [], ◌∷◌, codes, Option, Some, None}
+use Rattle.alto_words.specs.Fid.{disk_descriptor}
 use Rattle.alto_words.specs.Numbers.{number_in}
+use Rattle.disk_descriptor.specs.Opening.{HasCleanPage}
 use Rattle.disk_records.specs.Addresses.{disks_of}
-use Rattle.disk_records.specs.Events.{IsFirstOf, shown_events}
-use Rattle.disk_records.specs.Tapes.{Taped, Grown, ShowAlone, added}
+use Rattle.disk_records.specs.Events.{IsFirstOf, shown_events, writes_in}
+use Rattle.disk_records.specs.Tapes.{Taped, Grown, ShowAlone, added, pack}
 use Rattle.alto_top.specs.Formats.{AnswersFormat, FormatsPack, PreparesPack, ShowsThroughout}
 use Rattle.disk_records.specs.declared.records.Tally.{Tally}
 use Rattle.pack_model.specs.sessions.Tallies.{no_tally}
@@ -64,6 +66,10 @@ AsksFor words (Format n) = AsksFormat words n
 AsksFor words (Prepare n) = AsksPrepare words n
 AsksFor words Nothing = AsksUsage words
 
+-- words that ask for what may write the pack
+abbrev pub MayWrite : List (List ℕ) → Type 0
+MayWrite words = AsksBoot words ⊎ (AsksScavenge words ⊎ (((n : ℕ) × AsksFormat words n) ⊎ ((n : ℕ) × AsksPrepare words n)))
+
 abbrev pub usage_text : List ℕ
 usage_text = codes "usage\n"
 
@@ -100,9 +106,13 @@ pub record PreparesOrUsage (number : ℕ) (old new : Taped) (answer : Status) : 
   pub one : disks_of old.form ≢ 2 → ShowsUsage old new answer
 
 -- ---- the word `boot`: a session, of which nobody is shown the tally
+-- Whatever stands on the pack, a record is written only after a key was taken, and a key is taken only where a sector carries DiskDescriptor's
+-- page 1 with the clean mark and the right words.
 pub record BootedAlone (moment : ℕ) (old new : Taped) (answer : Status) : Type 0 where
   pub tally : Tally
   pub booted : Booted moment old new (no_tally 0) tally answer
+  pub unread : new.keys ≡ old.keys → writes_in (added old new) ≡ 0
+  pub entered : new.keys ≢ old.keys → HasCleanPage (pack old) disk_descriptor
 
 -- ---- the top call, by the words
 -- `prepare` with a number, on so many drives: there is a second drive, or there is none

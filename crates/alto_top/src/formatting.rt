@@ -5,12 +5,12 @@ ghost use Rattle.disk_records.specs.Tapes.{DiskAlone, Grown, pack};
 ghost use Rattle.pack_model.specs.sessions.Format.{format_writes, free_after_format};
 ghost use Rattle.disk_descriptor.specs.Formatting.{IsFormatted};
 ghost use Rattle.alto_top.specs.Faults.{HasDiskCause};
-ghost use Rattle.session_boot.specs.Faults.{HasStatusCause, UnlessStopped};
+ghost use Rattle.session_boot.specs.Faults.{HasStatusCause, NoFault, UnlessStopped};
 ghost use Rattle.alto_top.specs.Formats.{AnswersFormat, FormatsDisk, FormatsPack, format_text};
 ghost use Rattle.alto_top.specs.Showing.{KeepsKeys};
 
 use crate::faults::fault_of_format;
-use crate::flushing::flush_disk;
+use crate::flushing::settle_disk;
 use alto_words::{Memory, push_number};
 use disk_descriptor::format;
 use disk_records::{Disk, Machine};
@@ -28,9 +28,9 @@ fn text_of(alloc: Global, free: u16) -> Result<Vec<u8>, Memory>
     Ok(text)
 }
 
-/// Formats the pack, and gives the text that tells it, once all record writes are handed on.
+/// Formats the pack, and gives the text that tells it, once the device has all record writes.
 ///
-/// Disk: the disk failed, or didn't hand on what it held back. Memory: none was left, for the writes or for the text.
+/// Disk: the disk failed, or the device doesn't have all that was written. Memory: none was left, for the writes or for the text.
 fn format_disk<D: Disk>(
     alloc: Global,
     disk: &mut D,
@@ -47,7 +47,7 @@ fn format_disk<D: Disk>(
         Ok(free) => free,
         Err(error) => return Err(fault_of_format(error)),
     };
-    flush_disk(disk)?;
+    settle_disk(disk)?;
     Ok(text_of(alloc, free)?)
 }
 
@@ -62,6 +62,7 @@ pub fn format_pack<M: Machine>(alloc: Global, number: u16, moment: u32, machine:
     ensures answer { AnswersFormat result }
     ensures formats { IsTrue M.told → FormatsPack number moment (M.tape machine.old) (M.tape machine.new) result }
     ensures cause { HasStatusCause (M.tape machine.old) (M.tape machine.new) result }
+    ensures unfailed { UnlessStopped result (NoFault (M.tape machine.old) (M.tape machine.new)) }
     ensures handed_on { UnlessStopped result (M.handed_on machine.new) }
     ensures grown { Grown (M.tape machine.old) (M.tape machine.new) }
     ensures keys { KeepsKeys (M.tape machine.old) (M.tape machine.new) }

@@ -4,12 +4,12 @@ ghost use Rattle.disk_records.specs.Addresses.{disks_of};
 ghost use Rattle.disk_records.specs.Tapes.{DiskAlone, Grown};
 ghost use Rattle.laws_format.specs.Preparing.{drive_pages};
 ghost use Rattle.alto_top.specs.Faults.{HasDiskCause};
-ghost use Rattle.session_boot.specs.Faults.{HasStatusCause, UnlessStopped};
+ghost use Rattle.session_boot.specs.Faults.{HasStatusCause, NoFault, UnlessStopped};
 ghost use Rattle.alto_top.specs.Formats.{AnswersFormat, PreparesDisk, PreparesPack, ShowsThroughout, prepare_text};
 ghost use Rattle.alto_top.specs.Showing.{KeepsKeys};
 
 use crate::faults::fault_of_format;
-use crate::flushing::flush_disk;
+use crate::flushing::settle_disk;
 use alto_words::{Memory, push_number};
 use disk_descriptor::prepare;
 use disk_records::{Disk, Machine};
@@ -27,9 +27,9 @@ fn text_of(alloc: Global, pages: u16) -> Result<Vec<u8>, Memory>
     Ok(text)
 }
 
-/// Prepares the second drive, and gives the text that tells it, once all record writes are handed on.
+/// Prepares the second drive, and gives the text that tells it, once the device has all record writes.
 ///
-/// Disk: the disk failed, or didn't hand on what it held back. Memory: none was left, for the writes or for the text.
+/// Disk: the disk failed, or the device doesn't have all that was written. Memory: none was left, for the writes or for the text.
 fn prepare_disk<D: Disk>(alloc: Global, disk: &mut D, number: u16) -> Result<Vec<u8>, Fault>
     requires two { disks_of (D.tape disk.old).form ≡ 2 }
     ensures text { IfOk result (λ text. text.items ≡ prepare_text (drive_pages (D.tape disk.old).form)) }
@@ -43,7 +43,7 @@ fn prepare_disk<D: Disk>(alloc: Global, disk: &mut D, number: u16) -> Result<Vec
         Ok(pages) => pages,
         Err(error) => return Err(fault_of_format(error)),
     };
-    flush_disk(disk)?;
+    settle_disk(disk)?;
     Ok(text_of(alloc, pages)?)
 }
 
@@ -60,6 +60,7 @@ pub fn prepare_pack<M: Machine>(alloc: Global, number: u16, machine: &mut M) -> 
     ensures prepares { IsTrue M.told → PreparesPack number (M.tape machine.old) (M.tape machine.new) result }
     ensures shows { IsTrue M.told → ShowsThroughout (M.tape machine.old) (M.tape machine.new) }
     ensures cause { HasStatusCause (M.tape machine.old) (M.tape machine.new) result }
+    ensures unfailed { UnlessStopped result (NoFault (M.tape machine.old) (M.tape machine.new)) }
     ensures handed_on { UnlessStopped result (M.handed_on machine.new) }
     ensures grown { Grown (M.tape machine.old) (M.tape machine.new) }
     ensures keys { KeepsKeys (M.tape machine.old) (M.tape machine.new) }

@@ -4,7 +4,7 @@ ghost use Rattle.disk_records.specs.Tapes.{DiskAlone, Grown};
 ghost use Rattle.alto_top.specs.Faults.{HasDiskCause};
 ghost use Rattle.alto_top.specs.Scavenging.{AnswersScavenge, HasRefusal, ScavengesDisk, ScavengesPack, status_in, text_in};
 ghost use Rattle.alto_top.specs.Showing.{KeepsKeys};
-ghost use Rattle.session_boot.specs.Faults.{HasStatusCause, UnlessStopped};
+ghost use Rattle.session_boot.specs.Faults.{HasStatusCause, NoFault, UnlessStopped};
 
 use crate::flushing::flush_disk;
 use disk_records::{Disk, Machine};
@@ -112,6 +112,7 @@ pub fn scavenge_pack<M: Machine>(alloc: Global, machine: &mut M) -> Status
     ensures answer { AnswersScavenge result }
     ensures scavenges { IsTrue M.told → ScavengesPack (M.tape machine.old) (M.tape machine.new) result }
     ensures cause { HasStatusCause (M.tape machine.old) (M.tape machine.new) result }
+    ensures unfailed { UnlessStopped result (NoFault (M.tape machine.old) (M.tape machine.new)) }
     ensures handed_on { UnlessStopped result (M.handed_on machine.new) }
     ensures grown { Grown (M.tape machine.old) (M.tape machine.new) }
     ensures keys { KeepsKeys (M.tape machine.old) (M.tape machine.new) }

@@ -4,7 +4,7 @@ ghost use Rattle.disk_records.specs.Addresses.{pages_of};
 ghost use Rattle.disk_records.specs.Tapes.{Looks, Grown, pack};
 ghost use Rattle.pack_model.specs.showing.Settling.{show};
 ghost use Rattle.alto_top.specs.Faults.{HasDiskCause};
-ghost use Rattle.session_boot.specs.Faults.{HasStatusCause, UnlessStopped};
+ghost use Rattle.session_boot.specs.Faults.{HasStatusCause, NoFault, UnlessStopped};
 ghost use Rattle.alto_top.specs.Showing.{listing_text, AnswersShow, KeepsKeys, ShowsPack};
 
 use crate::faults::fault_of_reading;
@@ -41,6 +41,7 @@ pub fn show_pack<M: Machine>(alloc: Global, machine: &mut M) -> Status
     ensures answer { AnswersShow result }
     ensures shown { IsTrue M.told → ShowsPack (M.tape machine.old) (M.tape machine.new) result }
     ensures cause { HasStatusCause (M.tape machine.old) (M.tape machine.new) result }
+    ensures unfailed { UnlessStopped result (NoFault (M.tape machine.old) (M.tape machine.new)) }
     ensures handed_on { UnlessStopped result (M.handed_on machine.new) }
     ensures grown { Grown (M.tape machine.old) (M.tape machine.new) }
     ensures keys { KeepsKeys (M.tape machine.old) (M.tape machine.new) }

@@ -1,12 +1,12 @@
 // The command line.
-ghost use Rattle.std.specs.Prelude.{◌≡◌, ◌≢◌, [], ◌∷◌, codes, map, string_bytes, IsTrue};
+ghost use Rattle.std.specs.Prelude.{◌≡◌, ◌≢◌, [], ◌∷◌, ◌⊎◌, codes, map, string_bytes, IsFalse, IsTrue};
 ghost use Rattle.disk_records.specs.Addresses.{disks_of};
 ghost use Rattle.disk_records.specs.Tapes.{Grown, ShowAlone};
 ghost use Rattle.session_boot.specs.Boots.{AnswersBoot};
-ghost use Rattle.session_boot.specs.Faults.{HasStatusCause, UnlessStopped};
+ghost use Rattle.session_boot.specs.Faults.{HasStatusCause, NoFault, UnlessStopped};
 ghost use Rattle.alto_top.specs.Faults.{Concludes};
 ghost use Rattle.alto_top.specs.Showing.{KeepsKeys};
-ghost use Rattle.alto_top.specs.Top.{AnswersPrepare, AnswersTo, AnswersUsage, AsksFor, BootedAlone, DoesAsAsked, PreparesOrUsage, ShowsUsage, Touches, pack_number};
+ghost use Rattle.alto_top.specs.Top.{AnswersPrepare, AnswersTo, AnswersUsage, AsksFor, AsksShow, AsksUsage, BootedAlone, DoesAsAsked, MayWrite, PreparesOrUsage, ShowsUsage, Touches, pack_number};
 
 use crate::flushing::after_display;
 use crate::formatting::format_pack;
@@ -43,6 +43,21 @@ fn asked_of(words: &[String]) -> Asked
         [word] => asked_by(word.as_bytes()),
         [verb, number] => asked_by_two(verb.as_bytes(), number.as_bytes()),
         _ => Asked::Nothing,
+    }
+}
+
+/// Whether what the words ask for may write the pack: a session, a scavenge, a formatting and a preparing may.
+pub fn may_write(words: &[String]) -> bool
+    ensures writes { IsTrue result → MayWrite (map string_bytes words.now) }
+    ensures reads { IsFalse result → AsksShow (map string_bytes words.now) ⊎ AsksUsage (map string_bytes words.now) }
+{
+    match asked_of(words) {
+        Asked::Boot => true,
+        Asked::Show => false,
+        Asked::Scavenge => true,
+        Asked::Format(_) => true,
+        Asked::Prepare(_) => true,
+        Asked::Nothing => false,
     }
 }
 
@@ -87,6 +102,7 @@ fn show_usage<C: Console>(console: &mut C) -> Status
     ensures shown { IsTrue C.told → ShowsUsage (C.tape console.old) (C.tape console.new) result }
     ensures answer { AnswersUsage result }
     ensures cause { HasStatusCause (C.tape console.old) (C.tape console.new) result }
+    ensures unfailed { UnlessStopped result (NoFault (C.tape console.old) (C.tape console.new)) }
     ensures handed_on { C.handed_on console.new }
     ensures alone { ShowAlone (C.tape console.old) (C.tape console.new) }
 {
@@ -102,6 +118,7 @@ fn prepare_or_usage<M: Machine>(alloc: Global, number: u16, machine: &mut M) -> 
     ensures prepares { IsTrue M.told → PreparesOrUsage number (M.tape machine.old) (M.tape machine.new) result }
     ensures answers { AnswersPrepare (disks_of (M.tape machine.old).form) result }
     ensures cause { HasStatusCause (M.tape machine.old) (M.tape machine.new) result }
+    ensures unfailed { UnlessStopped result (NoFault (M.tape machine.old) (M.tape machine.new)) }
     ensures handed_on { UnlessStopped result (M.handed_on machine.new) }
     ensures grown { Grown (M.tape machine.old) (M.tape machine.new) }
     ensures keys { KeepsKeys (M.tape machine.old) (M.tape machine.new) }
@@ -119,6 +136,7 @@ fn boot_uncounted<M: Machine>(alloc: Global, moment: u32, machine: &mut M) -> St
     ensures booted { IsTrue M.told → BootedAlone moment (M.tape machine.old) (M.tape machine.new) result }
     ensures answers { AnswersBoot result }
     ensures cause { HasStatusCause (M.tape machine.old) (M.tape machine.new) result }
+    ensures unfailed { UnlessStopped result (NoFault (M.tape machine.old) (M.tape machine.new)) }
     ensures handed_on { UnlessStopped result (M.handed_on machine.new) }
     ensures grown { Grown (M.tape machine.old) (M.tape machine.new) }
 {

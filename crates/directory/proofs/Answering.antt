@@ -1,7 +1,8 @@
 -- The answers of calls on a directory as a file, as those of calls on a directory.
-use Rattle.std.proofs.Common.{◌≡◌, ◌≤◌, ℕ, List, Option, Result, Ok, Err, IsErrOf, OnErr, OnOk, ap, arith, refl, subst}
-use Rattle.disk_records.specs.Causes.{Cause, HasCause, IsCause, disk, display, keyboard, never, other}
-use Rattle.disk_records.specs.Tapes.{Grown, Taped}
+use Rattle.std.proofs.Common.{◌≡◌, ◌∙◌, ℕ, List, Option, Result, Ok, Err, IsErrOf, OnErr, OnOk, ap, arith, refl, subst}
+use Rattle.disk_records.specs.Causes.{Cause, HasCause, IsCause, Unfailed, never, other}
+use Rattle.disk_records.specs.Tapes.{DiskAlone, Taped}
+use Rattle.disk_records.proofs.Causing.{is_cause_after}
 use Rattle.disk_records.specs.declared.records.Page.{Page}
 use Rattle.disk_records.specs.declared.records.Place.{Place}
 use Rattle.laws_call.specs.Acting.{Around, Operates, begun, refused}
@@ -49,12 +50,12 @@ misled_in P (Err (fault.Beyond length)) r is h = rw is tt
 misled_in P (Err fault.DiskFault) r is h = rw is tt
 misled_in P (Err fault.Memory) r is h = rw is tt
 
-pub cause_in : (absent taken full : Cause) (first a b : Taped) (x : Result (Unit {0}) FileError) (r : Result (Unit {0}) DirError) → r ≡ in_directory x → first.disk_faults ≤ a.disk_faults → HasCause cause_of_length a b x → HasCause (cause_of absent taken full) first b r
-cause_in absent taken full first a b (Ok x) r is more h = rw is tt
-cause_in absent taken full first a b (Err (fault.Misled place at wanted found)) r is more h = rw is tt
-cause_in absent taken full first a b (Err (fault.Beyond length)) r is more h = rw is h
-cause_in absent taken full first a b (Err fault.DiskFault) r is more h = rw is (omega (arith, more, h))
-cause_in absent taken full first a b (Err fault.Memory) r is more h = rw is tt
+pub cause_in : (absent taken full : Cause) (first a b : Taped) (x : Result (Unit {0}) FileError) (r : Result (Unit {0}) DirError) → r ≡ in_directory x → Unfailed first a → HasCause cause_of_length a b x → HasCause (cause_of absent taken full) first b r
+cause_in absent taken full first a b (Ok x) r is none h = rw is (h ∙ none)
+cause_in absent taken full first a b (Err (fault.Misled place at wanted found)) r is none h = rw is (h ∙ none)
+cause_in absent taken full first a b (Err (fault.Beyond length)) r is none h = rw is h
+cause_in absent taken full first a b (Err fault.DiskFault) r is none h = rw is (omega (arith, none, h))
+cause_in absent taken full first a b (Err fault.Memory) r is none h = rw is (h ∙ none)
 
 pub not_by_slots : (X : Type 0) (a : Result (Unit {0}) FileError) (r : Result (Unit {0}) DirError) → r ≡ in_directory a → IfBySlots r X
 not_by_slots X (Ok x) r is = rw is tt
@@ -85,11 +86,11 @@ unlocated_misled T U P (fault.Beyond length) d is h = rw is tt
 unlocated_misled T U P fault.DiskFault d is h = rw is tt
 unlocated_misled T U P fault.Memory d is h = rw is tt
 
-pub unlocated_cause : (first a b : Taped) (e : FileError) (d : DirError) → d ≡ unlocated e → first.disk_faults ≤ a.disk_faults → IsCause a b (cause_of_file e) → IsCause first b (cause_of other never never d)
-unlocated_cause first a b (fault.Misled place at wanted found) d is more h = rw is tt
-unlocated_cause first a b (fault.Beyond length) d is more h = rw is tt
-unlocated_cause first a b fault.DiskFault d is more h = rw is (omega (arith, more, h))
-unlocated_cause first a b fault.Memory d is more h = rw is tt
+pub unlocated_cause : (first a b : Taped) (e : FileError) (d : DirError) → d ≡ unlocated e → Unfailed first a → IsCause a b (cause_of_file e) → IsCause first b (cause_of other never never d)
+unlocated_cause first a b (fault.Misled place at wanted found) d is none h = rw is (h ∙ none)
+unlocated_cause first a b (fault.Beyond length) d is none h = rw is (h ∙ none)
+unlocated_cause first a b fault.DiskFault d is none h = rw is (omega (arith, none, h))
+unlocated_cause first a b fault.Memory d is none h = rw is (h ∙ none)
 
 pub unlocated_memory : (T U : Type 0) (e : FileError) (d : DirError) → d ≡ unlocated e → IsErrOf {T = U} (Err d) out_of_memory → IsErrOf {T = T} (Err e) fault.Memory
 unlocated_memory T U (fault.Misled place at wanted found) d is h = absurd cc
@@ -105,21 +106,13 @@ unlocated_absent T U P fault.DiskFault d is h none m = absurd cc
 unlocated_absent T U P fault.Memory d is h none m = absurd cc
 
 -- ---- a part of a call
--- a fault has its cause in the call if it has it in the part
-pub cause_sooner : (k : Cause) (first a b : Taped) → Grown first a → IsCause a b k → IsCause first b k
-cause_sooner disk first a b grown h = let less = grown.disk_faults in omega (arith, less, h)
-cause_sooner keyboard first a b grown h = let less = grown.key_faults in omega (arith, less, h)
-cause_sooner display first a b grown h = let less = grown.show_faults in omega (arith, less, h)
-cause_sooner other first a b grown h = tt
-cause_sooner never first a b grown h = h
-
 -- an answer that the part never gives may come in the call
-pub cause_of_entering : {T : Type 0} (full : Cause) (first a b : Taped) (r : Result T DirError) → Grown first a → HasCause (cause_of never never full) a b r → HasCause (cause_of never other other) first b r
-cause_of_entering full first a b (Ok x) grown h = tt
-cause_of_entering full first a b (Err NoSuchName) grown h = h
-cause_of_entering full first a b (Err NameTaken) grown h = tt
-cause_of_entering full first a b (Err (NoSlot largest)) grown h = tt
-cause_of_entering full first a b (Err (File f)) grown h = cause_sooner (cause_of_length f) first a b grown h
+pub cause_of_entering : {T : Type 0} (full : Cause) {first a : Taped} (b : Taped) (r : Result T DirError) → DiskAlone first a → Unfailed first a → (IsCause a b full → Unfailed a b) → HasCause (cause_of never never full) a b r → HasCause (cause_of never other other) first b r
+cause_of_entering full b (Ok x) alone none is_full h = h ∙ none
+cause_of_entering full b (Err NoSuchName) alone none is_full h = h
+cause_of_entering full b (Err NameTaken) alone none is_full h = absurd h
+cause_of_entering full b (Err (NoSlot largest)) alone none is_full h = is_full h ∙ none
+cause_of_entering full b (Err (File f)) alone none is_full h = is_cause_after b alone none (cause_of_length f) h
 
 -- a part that never answers by the slots doesn't make the call do so
 pub never_by_slots : {T : Type 0} (X : Type 0) (r : Result T DirError) → IfBySlots r ⊥ → IfBySlots r X

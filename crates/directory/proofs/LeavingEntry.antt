@@ -17,6 +17,8 @@ use Rattle.hint_cache.specs.Caches.{Cached}
 use Rattle.laws_call.proofs.writing.Laws.{written_acts}
 use Rattle.laws_call.specs.Acting.{Around}
 use Rattle.laws_call.specs.Writing.{entry_freed, leaves}
+use Rattle.laws_operation.proofs.drop.Laws.{slot_carries_out, slot_keeps_links, slot_words_fit}
+use Rattle.laws_operation.proofs.values.Laws.{values_leave_free_sectors}
 use Rattle.file_pages.specs.laws_contents.proofs.pages.Laws.{carried_once_is_in_place}
 use Rattle.file_pages.specs.laws_lookup.proofs.slots.Laws.{found_entry_has_the_name, found_entry_splits_the_slots}
 use Rattle.file_pages.specs.laws_midway.proofs.found.Laws.{found_entry_may_go}
@@ -25,12 +27,12 @@ use Rattle.pack_model.specs.operations.Committing.{page_of_byte, page_of_word}
 use Rattle.pack_model.specs.operations.PageWords.{freed_value}
 use Rattle.pack_model.specs.operations.Step.Operation.{leave}
 use Rattle.pack_model.specs.operations.Step.{Operation}
-use Rattle.pack_model.specs.reading.Files.{file_bytes}
+use Rattle.pack_model.specs.reading.Files.{file_bytes, lives}
 use Rattle.pack_model.specs.reading.Lookup.{EntryAt, entry_at}
 use Rattle.pack_model.specs.reading.Sights.{sights}
 use Rattle.pack_model.specs.reading.Slots.Item.{entry}
 use Rattle.pack_model.specs.reading.Slots.{Item, all_words, item_words}
-use Rattle.pack_model.specs.states.Whole.{Tidy, Whole}
+use Rattle.pack_model.specs.states.Whole.{Tidy, TidyBut, Whole}
 use Rattle.page_seeking.specs.Seeking.{IsLengthBelow, KeepsHandy, Quick, Stands, file_length, page_number}
 use Rattle.page_seeking.specs.declared.refs.FileError.{FileError}
 use Rattle.page_seeking.specs.declared.refs.FileRef.{FileRef}
@@ -38,7 +40,7 @@ use Rattle.directory.specs.declared.errors.DirError.{DirError}
 use Rattle.directory.specs.Answers.{in_directory}
 use Rattle.directory.specs.Asked.{DirIsFound, DirStands}
 use Rattle.directory.specs.Found.{IsQuick}
-use Rattle.directory.specs.Leaving.{FreesSlot, IsEntryNamed, IsOrdinaryEntry, IsQuickTwice, entry_named, freed}
+use Rattle.directory.specs.Leaving.{ActsOnSlot, EndsDrop, FreesSlot, IsEntryNamed, IsEntryOf, IsOrdinaryEntry, IsQuickTwice, ending, entry_named, freed, unended, unfreed}
 use Rattle.directory.proofs.Answering.{error_out, ok_in}
 use Rattle.directory.proofs.Quickly.{refused_sooner}
 use Rattle.directory.proofs.Standing.{once_of_whole}
@@ -96,6 +98,27 @@ left_once p d name at a b e whole tidy may named =
 pub slot_freed : {o : Operation} {d : Fid} {name : List ℕ} {at : ℕ} {a b : List Item} {e : EntryAt} {p : Pack} {old new : Around} (r : Result (Unit {0}) FileError) (s : Result (Unit {0}) DirError) → s ≡ in_directory r → IsEntryNamed p d name at a b e
     → WroteValue at (entry_freed p at a e.fid e.name) o old new r → FreesSlot p d name old.tape new.tape s
 slot_freed r s is named wrote = rw is (freed named (record { some = wrote.some; all = ok_in _ r wrote.all; out_of_memory = λ memory. wrote.out_of_memory (error_out r _ memory) }))
+
+-- ---- the end of a drop
+of_file : (f : Fid) (e : EntryAt) (r : Option EntryAt) → r ≡ Some e → IfSome r (λ (x : EntryAt). x.fid ≡ f) → e.fid ≡ f
+of_file f e None is h = absurd cc
+of_file f e (Some x) is h = let same : x ≡ e = cc in subst (λ (y : EntryAt). y.fid ≡ f) same h
+
+acts_on_slot : (p : Pack) (d : Fid) (name : List ℕ) (at : ℕ) (a b : List Item) (e : EntryAt) → Whole p → TidyBut e.fid (sights p) → lives (sights p) e.fid ≡ false → IsEntryNamed p d name at a b e
+    → ActsOnSlot p (value_writes at (entry_freed p at a e.fid e.name))
+acts_on_slot p d name at a b e whole tidy dead named =
+    let frees = slot_words_fit p d at a b e.fid e.name named.entry in
+    record {
+      slot = slot_carries_out p e.fid d at a b e.name whole tidy dead frees;
+      links = slot_keeps_links p e.fid d at a b e.name whole tidy dead frees;
+      free = values_leave_free_sectors p ((at, entry_freed p at a e.fid e.name) ∷ []);
+    }
+
+pub drop_ended : {T : Type 0} {old new : Taped} (p : Pack) (d : Fid) (name : List ℕ) (f : Fid) (r : Result T DirError) → Whole p → TidyBut f (sights p) → lives (sights p) f ≡ false → IsEntryOf p d name f → FreesSlot p d name old new r → EndsDrop p old new r
+drop_ended p d name f r whole tidy dead of (unfreed silent) = unended silent
+drop_ended p d name f r whole tidy dead of (freed {at} {a} {b} {e} named wrote) =
+    let same = sym (of_file f e (entry_named p d name) named.first of) in
+    ending (acts_on_slot p d name at a b e whole (subst (λ (x : Fid). TidyBut x (sights p)) same tidy) (subst (λ (x : Fid). lives (sights p) x ≡ false) same dead) named) wrote
 
 -- ---- few sector commands
 pub quick_kept : (p : Pack) (f : Fid) (old now : Cached) → Quick p f old → KeepsHandy p old now → Quick p f now

@@ -7,7 +7,7 @@ use Rattle.disk_records.specs.declared.records.Page.{Page}
 use Rattle.disk_records.specs.declared.records.Place.{Place}
 use Rattle.disk_records.specs.declared.records.Sector.{Sector}
 use Rattle.disk_records.specs.declared.shape.Shape.{Shape}
-use Rattle.disk_records.specs.Causes.{HasCause, IsCause}
+use Rattle.disk_records.specs.Causes.{HasCause, IsCause, Unfailed}
 use Rattle.disk_records.specs.Packs.{Pack, carried, sector_at}
 use Rattle.disk_records.specs.Tapes.{Taped}
 use Rattle.disk_records.specs.Words.{word}
@@ -107,11 +107,11 @@ ended_within (Beyond n) r is = rw is tt
 ended_within DiskFault r is = rw is tt
 ended_within Memory r is = rw is tt
 
-pub ended_cause : (first a b : Taped) (e : FileError) (r : Result (Unit {0}) FileError) → r ≡ ended e → first.disk_faults ≤ a.disk_faults → IsCause a b (cause_of_file e) → HasCause cause_of_length first b r
-ended_cause first a b (Misled from at wanted found) r is more h = rw is tt
-ended_cause first a b (Beyond n) r is more h = rw is tt
-ended_cause first a b DiskFault r is more h = rw is (omega (arith, more, h))
-ended_cause first a b Memory r is more h = rw is tt
+pub ended_cause : (first a b : Taped) (e : FileError) (r : Result (Unit {0}) FileError) → r ≡ ended e → Unfailed first a → IsCause a b (cause_of_file e) → HasCause cause_of_length first b r
+ended_cause first a b (Misled from at wanted found) r is none h = rw is (h ∙ none)
+ended_cause first a b (Beyond n) r is none h = rw is (h ∙ none)
+ended_cause first a b DiskFault r is none h = rw is (omega (arith, none, h))
+ended_cause first a b Memory r is none h = rw is (h ∙ none)
 
 pub ended_memory : (T : Type 0) (e : FileError) (r : Result (Unit {0}) FileError) → r ≡ ended e → IsErrOf r Memory → IsErrOf {T = T} (Err e) Memory
 ended_memory T (Misled from at wanted found) r is m = absurd cc

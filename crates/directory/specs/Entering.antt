@@ -1,6 +1,7 @@
 -- What a caller sees of an entry that comes into a directory.
-use Rattle.std.specs.Prelude.{◌≡◌, ◌⊎◌, ℕ, ◌+◌, ◌*◌, ◌-◌, ◌<◌, ◌≤◌, ◌==◌, Bool, true, false, cond, min, nat_lt, List, [], ◌++◌, length, take, Some, Result, OnOk, IsErrOf}
+use Rattle.std.specs.Prelude.{◌≡◌, ◌⊎◌, ℕ, suc, ◌+◌, ◌*◌, ◌-◌, ◌<◌, ◌≤◌, ◌==◌, Bool, true, false, cond, min, nat_lt, List, [], ◌++◌, length, take, Some, Result, OnOk, IsErrOf}
 use Rattle.alto_words.specs.declared.fid.Fid.{Fid}
+use Rattle.alto_words.specs.declared.wanted.Wanted.TheVariants.{Exact}
 use Rattle.disk_records.specs.Commands.{value_writes}
 use Rattle.disk_records.specs.Events.{IsFirstOf}
 use Rattle.disk_records.specs.Packs.{Pack}
@@ -9,22 +10,30 @@ use Rattle.disk_records.specs.declared.records.Event.{Event}
 use Rattle.disk_records.specs.declared.records.Page.{Page}
 use Rattle.hint_cache.specs.Caches.{Cached}
 use Rattle.laws_call.specs.Acting.{Around}
+use Rattle.laws_call.specs.Writing.{entering_writes}
+use Rattle.laws_operation.specs.DirectoryWords.{left_in}
 use Rattle.file_pages.specs.laws_lookup.specs.EnteringLaws.{IsEnterable}
-use Rattle.pack_model.specs.operations.Committing.{page_of_byte}
+use Rattle.pack_model.specs.hints.Links.{dir_words}
+use Rattle.pack_model.specs.operations.Committing.{page_of_byte, page_of_word}
+use Rattle.pack_model.specs.operations.Entering.{found_room}
 use Rattle.pack_model.specs.operations.Operations.{enter_moves}
 use Rattle.pack_model.specs.operations.PageWords.{entered_words, freed_value, in_page, later, near}
+use Rattle.pack_model.specs.operations.Rooms.{Room}
 use Rattle.pack_model.specs.operations.Step.Operation.{enter}
 use Rattle.pack_model.specs.operations.Step.{Operation}
 use Rattle.pack_model.specs.reading.Bytes.{put_at}
 use Rattle.pack_model.specs.reading.Files.{lives, place}
 use Rattle.pack_model.specs.reading.Model.{is_named, read_as}
 use Rattle.pack_model.specs.reading.Sights.{sights}
-use Rattle.pack_model.specs.reading.Slots.{entry_length}
+use Rattle.pack_model.specs.reading.Slots.{entry_length, slots}
 use Rattle.pack_model.specs.sessions.Tallies.{CountsMoves}
 use Rattle.page_seeking.specs.Seeking.{Refused, file_length}
 use Rattle.directory.specs.declared.errors.DirError.{DirError}
 use Rattle.directory.specs.declared.place.RoomFound.{RoomFound}
 use Rattle.directory.specs.Errors.{disk_fault, out_of_memory}
+use Rattle.directory.specs.Found.{IsAbsent}
+use Rattle.directory.specs.Leaving.{IsUnwritten, Wrote}
+use Rattle.directory.specs.Places.{room_for}
 
 abbrev pub to_enter : Fid → List ℕ → Fid → Operation
 to_enter d name f = enter d name f
@@ -75,6 +84,25 @@ pub record WroteEntry {T : Type 0} (first last : List Event) (o : Operation) (ol
   pub table : new.bits ≡ old.bits
   pub counts : CountsMoves disk_fault old.tape new.tape (take (length (added old.tape new.tape)) (enter_moves first o)) old.tally new.tally result
   pub out_of_memory : IsErrOf result out_of_memory → old.tape.spare < length (first ++ last)
+
+-- ---- the exact record writes, of any file
+-- the words of the entry in this room
+abbrev pub words_in : Fid → ℕ → List ℕ → Room → List ℕ
+words_in f leader_at name r = entered_words f leader_at name (left_in r name)
+
+-- No entry has the name; this is the room for it; and the page in which that begins is in this sector, and so is the page after it in that one,
+-- where some of these words come to lie there.
+pub record IsRoomNamed (p : Pack) (d : Fid) (name : List ℕ) (r : Room) (words : List ℕ) (at next_at : ℕ) : Type 0 where
+  pub absent : IsAbsent p d (Exact name)
+  pub room : room_for p d name ≡ Some r
+  pub sector : place (sights p) d (page_of_word r.place) ≡ Some at
+  pub next_sector : 0 < length (later r.place words) → place (sights p) d (suc (page_of_word r.place)) ≡ Some next_at
+
+-- For every answer: nothing was written; or the values were to be written with which the words of the entry come into the first room for it.
+pub data EntersWords {T : Type 0} (p : Pack) (d : Fid) (name : List ℕ) (f : Fid) (leader_at : ℕ) (old new : Taped) (result : Result T DirError) : Type 0 where
+  unentered : IsUnwritten old new result → EntersWords p d name f leader_at old new result
+  enters_at : {r : Room} {at next_at : ℕ} → IsRoomNamed p d name r (words_in f leader_at name r) at next_at
+      → Wrote (entering_writes p (found_room r (slots (dir_words p d)) at next_at) (words_in f leader_at name r)) old new result → EntersWords p d name f leader_at old new result
 
 -- ---- few sector commands
 -- three for each data page and ten more, unless a note was refused

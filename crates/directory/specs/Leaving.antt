@@ -12,6 +12,9 @@ use Rattle.disk_records.specs.declared.records.Event.{Event}
 use Rattle.hint_cache.specs.Caches.{Cached}
 use Rattle.laws_call.specs.Writing.{entry_freed}
 use Rattle.laws_operation.specs.DirectoryWords.{HasEntry}
+use Rattle.laws_operation.specs.FreeLaws.{SameFree}
+use Rattle.laws_operation.specs.LifeLaws.{SlotFreed}
+use Rattle.laws_operation.specs.LinkLaws.{KeepsLinks}
 use Rattle.page_seeking.specs.Seeking.{Refused, file_length}
 use Rattle.pack_model.specs.hints.Links.{dir_slots}
 use Rattle.pack_model.specs.operations.Committing.{page_of_byte}
@@ -59,6 +62,23 @@ pub record IsUnwritten {T : Type 0} (old new : Taped) (result : Result T DirErro
 pub data FreesSlot {T : Type 0} (p : Pack) (d : Fid) (name : List ℕ) (old new : Taped) (result : Result T DirError) : Type 0 where
   unfreed : IsUnwritten old new result → FreesSlot p d name old new result
   freed : {at : ℕ} {a b : List Item} {e : EntryAt} → IsEntryNamed p d name at a b e → Wrote (value_writes at (entry_freed p at a e.fid e.name)) old new result → FreesSlot p d name old new result
+
+-- ---- that of a file that was dropped
+-- the first entry of the name, if there is one, is this file's
+abbrev pub IsEntryOf : Pack → Fid → List ℕ → Fid → Type 0
+IsEntryOf p d name f = IfSome (entry_named p d name) (λ e. e.fid ≡ f)
+
+-- The end of a drop: at each crash point the pack is read as before, and afterwards it is whole and tidy. DiskDescriptor stays, and what a
+-- session keeps of it fits. Links that were true are true again, and the same sectors are free.
+pub record ActsOnSlot (p : Pack) (writes : List Event) : Type 0 where
+  pub slot : SlotFreed p writes
+  pub links : KeepsLinks p writes
+  pub free : SameFree p writes
+
+-- For every answer: nothing was written; or record writes were to be made that are the end of a drop.
+pub data EndsDrop {T : Type 0} (p : Pack) (old new : Taped) (result : Result T DirError) : Type 0 where
+  unended : IsUnwritten old new result → EndsDrop p old new result
+  ending : {writes : List Event} → ActsOnSlot p writes → Wrote writes old new result → EndsDrop p old new result
 
 -- ---- few sector commands
 -- two for each data page and four more, unless a note was refused

@@ -3,8 +3,9 @@ ghost use Rattle.std.specs.Prelude.{◌≡◌, ◌+◌, ◌*◌, ◌++◌, ◌<�
 ghost use Rattle.disk_records.specs.Addresses.{pages_of};
 ghost use Rattle.disk_records.specs.Causes.{HasCause, never, other};
 ghost use Rattle.disk_records.specs.Commands.{value_writes};
+ghost use Rattle.disk_records.specs.Frames.{IsPageOf, WritesIn};
 ghost use Rattle.disk_records.specs.Packs.{carried};
-ghost use Rattle.disk_records.specs.Tapes.{DiskAlone, Looks, pack};
+ghost use Rattle.disk_records.specs.Tapes.{DiskAlone, Looks, added, pack};
 ghost use Rattle.file_pages.specs.Calls.{IsHintOrFound, WasFound, WasHeld};
 ghost use Rattle.file_pages.specs.Values.{LeavesHandy};
 ghost use Rattle.laws_call.specs.Acting.{IsQuiet, Operates, around};
@@ -20,7 +21,7 @@ ghost use Rattle.page_seeking.specs.Seeking.{IsLengthBelow, KeepsHandy, Quick, S
 ghost use Rattle.directory.specs.Asked.{DirIsFound, DirStands};
 ghost use Rattle.directory.specs.Bounds.{most_words};
 ghost use Rattle.directory.specs.Errors.{IfBySlots, IfMisled, IfNoSlot, cause_of, disk_fault, out_of_memory};
-ghost use Rattle.directory.specs.Entering.{IsQuickThrice, MayBeEntered, WroteEntry, has_later, joined_value, joining_writes, next_page, next_writes, room_value, to_enter};
+ghost use Rattle.directory.specs.Entering.{EntersWords, IsQuickThrice, MayBeEntered, WroteEntry, has_later, joined_value, joining_writes, next_page, next_writes, room_value, to_enter};
 ghost use Rattle.directory.specs.Leaving.{Wrote};
 ghost use Rattle.directory.specs.Places.{HadRoom, HasNoRoom, IsTaken};
 
@@ -48,6 +49,7 @@ fn write_first<D: Disk>(
     requires first { IsTrue wanted → 1 ≤ at }
     requires place { IsTrue wanted → at < pages_of (D.tape disk.old).form }
     ensures writes { IsTrue D.told → Wrote (cond wanted (value_writes at value.now) []) (D.tape disk.old) (D.tape disk.new) result }
+    ensures frame { IsTrue D.told → WritesIn (IsPageOf page.fid (pack (D.tape disk.old))) (added (D.tape disk.old) (D.tape disk.new)) }
     ensures misled { IsTrue D.told → (IsTrue wanted → carried (pack (D.tape disk.old)) at ≡ Some page) → IfMisled result (λ place at wanted found. ⊥) }
     ensures held { IfMisled result (WasHeld at page) }
     ensures slots { IfBySlots result ⊥ }
@@ -209,6 +211,7 @@ fn write_entry<D: Disk>(
     requires few { length words.now ≤ 27 }
     requires next { IsTrue (has_later room.now words.now) → (1 ≤ next_at) × (next_at < pages_of (D.tape disk.old).form) }
     ensures writes { (o : Operation) (bits : List Bool) → IsTrue D.told → WroteEntry (joining_writes room.now at buf.old.value ++ next_writes room.now words.now next_at next.old.value) (value_writes at (room_value room.now words.now buf.old.value)) o (around (D.tape disk.old) bits tally.old) (around (D.tape disk.new) bits tally.new) result }
+    ensures frame { IsTrue D.told → WritesIn (IsPageOf page.fid (pack (D.tape disk.old))) (added (D.tape disk.old) (D.tape disk.new)) }
     ensures misled { IsTrue D.told → carried (pack (D.tape disk.old)) at ≡ Some page → (IsTrue (has_later room.now words.now) → carried (pack (D.tape disk.old)) next_at ≡ Some (next_page page)) → IfMisled result (λ place at wanted found. ⊥) }
     ensures held { IfMisled result (WasFound page.fid) }
     ensures slots { IfBySlots result ⊥ }
@@ -257,9 +260,11 @@ pub fn enter<D: Disk>(
     leader_at: u16,
     buf: &mut Sector,
 ) -> Result<(), DirError>
-    // The operation, and what the slots say.
+    // The operation, of a file that may be entered; the exact record writes, of any; what the slots say; and where it writes, on any pack.
     ensures operates { IsTrue D.told → DirStands (pack (D.tape disk.old)) dir.now → MayBeEntered (pack (D.tape disk.old)) dir.now.fid fid leader_at → Operates disk_fault out_of_memory (to_enter dir.now.fid name.now fid) [] (around (D.tape disk.old) hints.old.table tally.old) (around (D.tape disk.new) hints.new.table tally.new) result }
+    ensures enters { IsTrue D.told → DirIsFound (pack (D.tape disk.old)) dir.now → EntersWords (pack (D.tape disk.old)) dir.now.fid name.now fid leader_at (D.tape disk.old) (D.tape disk.new) result }
     ensures found { IsTrue D.told → DirStands (pack (D.tape disk.old)) dir.now → OnOk result (HadRoom (pack (D.tape disk.old)) dir.now.fid name.now) }
+    ensures frame { IsTrue D.told → WritesIn (IsPageOf dir.now.fid (pack (D.tape disk.old))) (added (D.tape disk.old) (D.tape disk.new)) }
 
     // Which error comes when.
     ensures taken { IsTrue D.told → DirStands (pack (D.tape disk.old)) dir.now → IsErrOf result DirError.NameTaken → IsTaken (pack (D.tape disk.old)) dir.now.fid name.now }

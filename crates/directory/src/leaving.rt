@@ -1,9 +1,10 @@
 // An entry that leaves its directory, and the end of a drop.
-ghost use Rattle.std.specs.Prelude.{◌≡◌, ◌*◌, ◌+◌, ◌<◌, ◌≤◌, [], IfOk, IsErrOf, IsTrue, OnOk, Some, length};
+ghost use Rattle.std.specs.Prelude.{◌≡◌, ◌*◌, ◌+◌, ◌<◌, ◌≤◌, [], IfOk, IsErrOf, IsTrue, OnOk, Some, false, length};
 ghost use Rattle.alto_words.specs.declared.fid.Fid.{Fid};
 ghost use Rattle.alto_words.specs.declared.wanted.Wanted.TheVariants.{Exact};
 ghost use Rattle.disk_records.specs.Addresses.{pages_of};
 ghost use Rattle.disk_records.specs.Causes.{HasCause, never, other};
+ghost use Rattle.disk_records.specs.Frames.{IsPageOf, WritesIn};
 ghost use Rattle.disk_records.specs.Tapes.{DiskAlone, Looks, added, pack};
 ghost use Rattle.file_pages.specs.Calls.{IsHintOrFound};
 ghost use Rattle.file_pages.specs.Values.{LeavesHandy};
@@ -11,6 +12,7 @@ ghost use Rattle.laws_call.specs.Acting.{IsQuiet, Operates, around};
 ghost use Rattle.pack_model.specs.hints.Links.{LinksTrue};
 ghost use Rattle.pack_model.specs.operations.Committing.{page_of_word};
 ghost use Rattle.pack_model.specs.operations.PageWords.{freed_value};
+ghost use Rattle.pack_model.specs.reading.Files.{lives};
 ghost use Rattle.pack_model.specs.reading.Sights.{sights};
 ghost use Rattle.pack_model.specs.reading.Slots.Item.{entry};
 ghost use Rattle.pack_model.specs.reading.Slots.{item_words};
@@ -22,7 +24,7 @@ ghost use Rattle.directory.specs.Bounds.{most_words};
 ghost use Rattle.directory.specs.Errors.{IfBySlots, IfMisled, cause_of, disk_fault, out_of_memory};
 ghost use Rattle.directory.specs.Found.{IsAbsent, IsQuick};
 ghost use Rattle.directory.specs.Inside.{found_at};
-ghost use Rattle.directory.specs.Leaving.{FreesSlot, IsOrdinaryEntry, IsQuickTwice, entry_named, to_leave};
+ghost use Rattle.directory.specs.Leaving.{EndsDrop, FreesSlot, IsEntryOf, IsOrdinaryEntry, IsQuickTwice, entry_named, to_leave};
 
 use crate::answers::{in_directory, unlocated};
 use crate::entry::EntryFound;
@@ -127,6 +129,7 @@ fn free_entry<D: Disk>(
 ) -> Result<(), DirError>
     ensures operates { IsTrue D.told → Whole (pack (D.tape disk.old)) → Tidy (pack (D.tape disk.old)) → DirIsFound (pack (D.tape disk.old)) dir.now → IsOrdinaryEntry (pack (D.tape disk.old)) dir.now.fid name.now → Operates disk_fault out_of_memory (to_leave dir.now.fid name.now) [] (around (D.tape disk.old) hints.old.table tally.old) (around (D.tape disk.new) hints.new.table tally.new) result }
     ensures frees { IsTrue D.told → DirIsFound (pack (D.tape disk.old)) dir.now → FreesSlot (pack (D.tape disk.old)) dir.now.fid name.now (D.tape disk.old) (D.tape disk.new) result }
+    ensures frame { IsTrue D.told → WritesIn (IsPageOf dir.now.fid (pack (D.tape disk.old))) (added (D.tape disk.old) (D.tape disk.new)) }
     ensures absent { IsTrue D.told → Whole (pack (D.tape disk.old)) → DirIsFound (pack (D.tape disk.old)) dir.now → IsErrOf result DirError.NoSuchName → IsAbsent (pack (D.tape disk.old)) dir.now.fid (Exact name.now) }
     ensures unwritten { IsTrue D.told → IfBySlots result (IsQuiet (around (D.tape disk.old) hints.old.table tally.old) (around (D.tape disk.new) hints.new.table tally.new)) }
     ensures quiet { IsTrue D.told → IfMisled result (λ place at wanted found. IsQuiet (around (D.tape disk.old) hints.old.table tally.old) (around (D.tape disk.new) hints.new.table tally.new)) }
@@ -169,9 +172,10 @@ pub fn leave<D: Disk>(
     name: &Name,
     buf: &mut Sector,
 ) -> Result<(), DirError>
-    // The operation, of an ordinary entry; and the exact record write, of any.
+    // The operation, of an ordinary entry; the exact record write, of any; and where it is, on any pack.
     ensures operates { IsTrue D.told → DirStands (pack (D.tape disk.old)) dir.now → IsOrdinaryEntry (pack (D.tape disk.old)) dir.now.fid name.now → Operates disk_fault out_of_memory (to_leave dir.now.fid name.now) [] (around (D.tape disk.old) hints.old.table tally.old) (around (D.tape disk.new) hints.new.table tally.new) result }
     ensures frees { IsTrue D.told → DirStands (pack (D.tape disk.old)) dir.now → FreesSlot (pack (D.tape disk.old)) dir.now.fid name.now (D.tape disk.old) (D.tape disk.new) result }
+    ensures frame { IsTrue D.told → WritesIn (IsPageOf dir.now.fid (pack (D.tape disk.old))) (added (D.tape disk.old) (D.tape disk.new)) }
 
     // Which error comes when.
     ensures absent { IsTrue D.told → DirStands (pack (D.tape disk.old)) dir.now → IsErrOf result DirError.NoSuchName → IsAbsent (pack (D.tape disk.old)) dir.now.fid (Exact name.now) }
@@ -208,8 +212,12 @@ pub fn free_slot<D: Disk>(
     name: &Name,
     buf: &mut Sector,
 ) -> Result<(), DirError>
-    // The exact record write.
+    // The exact record write, and where it is, on any pack.
     ensures frees { IsTrue D.told → DirIsFound (pack (D.tape disk.old)) dir.now → FreesSlot (pack (D.tape disk.old)) dir.now.fid name.now (D.tape disk.old) (D.tape disk.new) result }
+    ensures frame { IsTrue D.told → WritesIn (IsPageOf dir.now.fid (pack (D.tape disk.old))) (added (D.tape disk.old) (D.tape disk.new)) }
+
+    // What that does to a whole pack, tidy except for the entry of the file `f` that was dropped, whose name this is.
+    ensures ends { (f : Fid) → IsTrue D.told → DirIsFound (pack (D.tape disk.old)) dir.now → Whole (pack (D.tape disk.old)) → TidyBut f (sights (pack (D.tape disk.old))) → lives (sights (pack (D.tape disk.old))) f ≡ false → IsEntryOf (pack (D.tape disk.old)) dir.now.fid name.now f → EndsDrop (pack (D.tape disk.old)) (D.tape disk.old) (D.tape disk.new) result }
 
     // Which error comes when.
     ensures absent { IsTrue D.told → Whole (pack (D.tape disk.old)) → DirIsFound (pack (D.tape disk.old)) dir.now → IsErrOf result DirError.NoSuchName → IsAbsent (pack (D.tape disk.old)) dir.now.fid (Exact name.now) }

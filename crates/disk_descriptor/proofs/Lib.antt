@@ -1,5 +1,7 @@
 mod Closings
 mod Entered
+mod FirstPage
+pub mod Framing
 mod Guards
 mod Keeping
 mod Map

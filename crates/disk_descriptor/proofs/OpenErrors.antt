@@ -52,10 +52,10 @@ open_ok T P file.DiskFault o is h = rw is tt
 open_ok T P file.Memory o is h = rw is tt
 
 pub open_caused : (a b : Taped) (e : FileError) (o : OpenError) → o ≡ open_error e → IsCause a b (cause_of_file e) → IsCause a b (cause_of_opening o)
-open_caused a b (file.Misled place at wanted found) o is h = rw is tt
-open_caused a b (file.Beyond n) o is h = rw is tt
+open_caused a b (file.Misled place at wanted found) o is h = rw is h
+open_caused a b (file.Beyond n) o is h = rw is h
 open_caused a b file.DiskFault o is h = rw is h
-open_caused a b file.Memory o is h = rw is tt
+open_caused a b file.Memory o is h = rw is h
 
 pub open_want : (e : FileError) (o : OpenError) → o ≡ open_error e → o ≡ Memory → e ≡ file.Memory
 open_want (file.Misled place at wanted found) o is m = absurd cc

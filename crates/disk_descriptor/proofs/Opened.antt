@@ -20,7 +20,7 @@ use Rattle.disk_descriptor.specs.Opening.{IsOpened, bad_word, shape_words}
 use Rattle.disk_descriptor.specs.Reading.{IsRead}
 
 -- the first word that differs is in front
-bad_taken : (ws : List (ℕ × ℕ)) (n : ℕ) (words : List ℕ) → AllByRecursion (λ w. w.0 < n) ws → bad_word ws (take n words) ≡ bad_word ws words
+pub bad_taken : (ws : List (ℕ × ℕ)) (n : ℕ) (words : List ℕ) → AllByRecursion (λ w. w.0 < n) ws → bad_word ws (take n words) ≡ bad_word ws words
 bad_taken [] n words low = refl
 bad_taken (w ∷ ws) n words low =
     let here : word (take n words) w.0 ≡ word words w.0 = get_or-take n words w.0 0 low.0 in

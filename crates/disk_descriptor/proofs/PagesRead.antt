@@ -7,7 +7,7 @@ use Rattle.std.proofs.Math.Seq.{get_or-set_same, take-append-add}
 use Rattle.alto_words.specs.declared.fid.Fid.{Fid}
 use Rattle.disk_records.proofs.Bytes.{length-words_of}
 use Rattle.disk_records.specs.Addresses.{pages_of}
-use Rattle.disk_records.specs.Causes.{IsCause}
+use Rattle.disk_records.specs.Causes.{IsCause, Unfailed}
 use Rattle.disk_records.specs.Packs.{Pack, sector_at}
 use Rattle.disk_records.specs.Tapes.{Taped}
 use Rattle.disk_records.specs.Words.{word}
@@ -188,8 +188,8 @@ never_past T U p f k (Beyond n) once full h = not_beyond p f k n once full h
 never_past T U p f k DiskFault once full h = tt
 never_past T U p f k Memory once full h = tt
 
-pub cause_before : (first a b : Taped) (e : FileError) → first.disk_faults ≤ a.disk_faults → IsCause a b (cause_of_file e) → IsCause first b (cause_of_file e)
-cause_before first a b (Misled place at wanted found) more h = tt
-cause_before first a b (Beyond n) more h = tt
-cause_before first a b DiskFault more h = omega (arith, more, h)
-cause_before first a b Memory more h = tt
+pub cause_before : (first a b : Taped) (e : FileError) → Unfailed first a → IsCause a b (cause_of_file e) → IsCause first b (cause_of_file e)
+cause_before first a b (Misled place at wanted found) none h = h ∙ none
+cause_before first a b (Beyond n) none h = h ∙ none
+cause_before first a b DiskFault none h = omega (arith, none, h)
+cause_before first a b Memory none h = h ∙ none

@@ -1,9 +1,10 @@
 -- Which packs open: by DiskDescriptor's length, its words and its mark, in this order.
 use Rattle.std.specs.Prelude.{Bool, Err, List, None, Ok, Option, Result, Some, cond, ℕ, ◌==◌, ◌≡◌, ◌≢◌, [], ◌∷◌}
 use Rattle.alto_words.specs.Fid.{disk_descriptor}
+use Rattle.alto_words.specs.declared.fid.Fid.{Fid}
 use Rattle.disk_records.specs.Addresses.{cylinders_of, descriptor_length, disks_of, pages_of, table_words}
 use Rattle.disk_records.specs.Causes.{Cause, disk, never, other}
-use Rattle.disk_records.specs.Packs.{Pack}
+use Rattle.disk_records.specs.Packs.{Pack, carried, sector_at}
 use Rattle.disk_records.specs.Words.{word}
 use Rattle.disk_records.specs.declared.records.Page.{Page}
 use Rattle.disk_records.specs.declared.records.Place.{Place}
@@ -15,7 +16,7 @@ use Rattle.pack_model.specs.reading.Sights.{sights}
 use Rattle.pack_model.specs.states.Sentences.{EachOnce}
 use Rattle.pack_model.specs.states.Sound.{mark_clean, mark_of}
 use Rattle.page_seeking.specs.Refs.{FileIsFrom}
-use Rattle.page_seeking.specs.Seeking.{file_length}
+use Rattle.page_seeking.specs.Seeking.{file_length, page_number}
 use Rattle.page_seeking.specs.declared.refs.FileError.{FileError}
 use Rattle.page_seeking.specs.declared.refs.FileError.TheVariants as file
 use Rattle.page_seeking.specs.declared.refs.FileRef.{FileRef}
@@ -65,6 +66,14 @@ pub record IsOpened (p : Pack) (kept : Fields) (busy : List Bool) : Type 0 where
   pub fits : Fits p kept
   pub clean : kept.mark ≡ mark_clean
   pub table : busy ≡ bits_in (pages_of p.shape) (table_in p)
+
+-- A sector carries page 1 of DiskDescriptor with the clean mark and those words as the shape has them. It is said of packs too that carry
+-- this page twice.
+pub record HasCleanPage (p : Pack) (f : Fid) : Type 0 where
+  pub at : ℕ
+  pub carries : carried p at ≡ Some (page_number f 1)
+  pub clean : word (sector_at p at).value 6 ≡ mark_clean
+  pub right : bad_word (shape_words p.shape) (sector_at p at).value ≡ None
 
 -- ---- by cases
 abbrev pub IfWrongLength : {T : Type 0} → Result T OpenError → (ℕ → Type 0) → Type 0

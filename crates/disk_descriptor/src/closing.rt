@@ -12,7 +12,7 @@ ghost use Rattle.disk_descriptor.specs.Writing.{WritesOwn};
 
 use crate::DescError;
 use crate::values::descriptor_page;
-use crate::writing::write_page;
+use crate::writing::write_closing;
 use disk_records::Disk;
 use hint_cache::BitTable;
 
@@ -20,7 +20,8 @@ use hint_cache::BitTable;
 pub(crate) const CLEAN: u16 = 1;
 
 /// Writes DiskDescriptor's data pages, which these sectors are to carry, with the clean mark: from the last to the first, so that the mark
-/// comes last. Two sector commands and one record write a page.
+/// comes last. Two sector commands and one record write a page. The device has taken all that was written before when the mark is written,
+/// and the mark at Ok.
 ///
 /// Held: a sector doesn't carry its page; nothing was written there or for a page before it. DiskFault: the disk failed. Memory: no memory
 /// was left for a record write. After each of them the pages after it are written. Spent never comes.
@@ -43,7 +44,7 @@ pub fn write_pages<D: Disk>(
         left -= 1;
         let number = left as u16 + 1;
         let value = descriptor_page(shape, last, CLEAN, table, number);
-        write_page(disk, pages[left], number, &value)?;
+        write_closing(disk, pages[left], number, &value)?;
     }
     Ok(())
 }

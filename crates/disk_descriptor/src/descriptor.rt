@@ -2,7 +2,7 @@
 use crate::DescError;
 use crate::closing::{CLEAN, write_pages};
 use crate::pages::data_pages;
-use crate::writing::change_words;
+use crate::writing::{change_and_settle, change_words};
 use disk_records::{Disk, Shape};
 use hint_cache::BitTable;
 use std::marker::Model;
@@ -70,7 +70,7 @@ impl Descriptor {
     }
 
     /// Opens the mark, before the first other record write of a session: nothing where it is open, else one record write in three sector
-    /// commands. It takes no memory of its own.
+    /// commands, which the device has taken at Ok. It takes no memory of its own.
     ///
     /// Held: the sector that is kept doesn't carry DiskDescriptor's first page; on a modelled disk nothing was written. DiskFault: the
     /// device failed. Memory: it wanted some for the record write, and had none. What is kept is as before after each of them; after
@@ -90,7 +90,7 @@ impl Descriptor {
         if self.mark == OPEN {
             return Ok(());
         }
-        change_words(disk, self.pages[0], MARK, &[OPEN])?;
+        change_and_settle(disk, self.pages[0], MARK, &[OPEN])?;
         self.mark = OPEN;
         Ok(())
     }
@@ -129,8 +129,9 @@ impl Descriptor {
     }
 
     /// Closes the pack with this table as its allocation map: nothing where the mark is clean, else DiskDescriptor's data pages from the
-    /// last to the first, so that the clean mark comes last. Two sector commands and one record write a page. The table has to have a bit
-    /// for each sector. It takes no memory of its own.
+    /// last to the first, so that the clean mark comes last. Two sector commands and one record write a page. The device has taken all that
+    /// was written before when the mark is written, and the mark at Ok. The table has to have a bit for each sector. It takes no memory of
+    /// its own.
     ///
     /// Held: a sector that is kept doesn't carry its page; the pages after it are written. DiskFault: the device failed. Memory: it wanted
     /// some for a record write, and had none. After each of them what is kept is as before; on a modelled disk a prefix of the record
@@ -141,6 +142,7 @@ impl Descriptor {
         ensures guarded { IsTrue D.told → WritesOwn self.old.pages (closes_kept table.now self.old) (2 * length self.old.pages) (D.tape disk.old) (D.tape disk.new) result }
         ensures writes { IsTrue D.told → Fits (pack (D.tape disk.old)) self.old → Writes DescError.Memory (closes (pack (D.tape disk.old)) table.now self.old) (2 * length self.old.pages) (D.tape disk.old) (D.tape disk.new) result }
         ensures fits { IsTrue D.told → FitsDisk (pack (D.tape disk.old)) self.old → OnOk result (FitsDisk (pack (D.tape disk.new)) self.new) }
+        ensures quiet { self.old.mark ≡ mark_clean → (D.tape disk.new) ≡ (D.tape disk.old) }
         ensures describes { IsTrue D.told → FitsDisk (pack (D.tape disk.old)) self.old → self.old.mark ≢ mark_clean → OnOk result (Describes (pack (D.tape disk.old)) (pack (D.tape disk.new)) table.now) }
         ensures reads { IsTrue D.told → FitsDisk (pack (D.tape disk.old)) self.old → OnOk result (ReadsAs (read_as (pack (D.tape disk.old))) (pack (D.tape disk.old)) (pack (D.tape disk.new))) }
         ensures kept { OnOk result (self.new ≡ closed self.old) }

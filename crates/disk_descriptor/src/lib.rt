@@ -24,12 +24,14 @@
 //!    this order exactly another length, the first word that says another shape, and a mark that isn't clean (`wrong_length`, `bad_word`,
 //!    `not_clean`); else its `Descriptor` fits, and the table is the map that stands there (`opened`). Only DiskDescriptor's own hints
 //!    mislead it (`misled`), and they are words on the disk (`on_disk`). A whole and tidy pack with true links is opened if its mark is clean
-//!    (`true_links`).
+//!    (`true_links`). One that carries a page twice is opened only if a sector that carries page 1 has the clean mark and the right words
+//!    (`clean_page`).
 //!
 //! And on every machine: `format` and `prepare` answer how many sectors are free, or were prepared (`free`, `pages`), `descriptor_page` the
-//! words of a page (`value`); what is kept, and the table, are as before after an error (`left`); a fault comes only where its count rose
-//! (`cause`), no key is taken and nothing is shown (`alone`, `looks`).
-//! Not promised: what a pack means whose formatting was broken off. It is formatted again.
+//! words of a page (`value`); what is kept, and the table, are as before after an error (`left`); a fault comes only where its count rose,
+//! and at each other answer the count is as it was (`cause`); no key is taken and nothing is shown (`alone`, `looks`).
+//! Not said by a clause: that the device is asked to take the mark before anything that comes after it, and all else before the clean mark
+//! (`Disk::settle`); what is modelled has taken all. Not promised: what a pack means whose formatting was broken off. It is formatted again.
 #![tactic(auto)]
 
 mod closing;

@@ -1,18 +1,20 @@
 // Opening a pack: what DiskDescriptor says is tested, and then kept.
-ghost use Rattle.std.specs.Prelude.{◌≡◌, ◌*◌, ◌≤◌, IfOk, IsErrOf, IsTrue, OnErr, [], length};
+ghost use Rattle.std.specs.Prelude.{◌≡◌, ◌*◌, ◌≤◌, IfOk, IsErrOf, IsTrue, OnErr, OnOk, [], length};
 ghost use Rattle.alto_words.specs.Fid.{disk_descriptor};
+ghost use Rattle.alto_words.specs.declared.fid.Fid.{Fid};
 ghost use Rattle.disk_records.specs.Addresses.{pages_of};
-ghost use Rattle.disk_records.specs.Causes.{HasCause};
+ghost use Rattle.disk_records.specs.Causes.{HasCause, Unfailed};
 ghost use Rattle.disk_records.specs.Packs.{Pack};
 ghost use Rattle.disk_records.specs.Tapes.{Looks, Taped, pack};
 ghost use Rattle.hint_cache.specs.Bits.{bit_in, bits_in};
 ghost use Rattle.pack_model.specs.hints.Links.{LinksTrue};
 ghost use Rattle.pack_model.specs.hints.Misled.{IsOnDisk};
+ghost use Rattle.pack_model.specs.states.Sound.{mark_clean};
 ghost use Rattle.page_seeking.specs.Refs.{FileStands, MisledBy};
 ghost use Rattle.page_seeking.specs.Seeking.{KeepsHandy};
-ghost use Rattle.disk_descriptor.specs.Opening.{HasBadWord, HasWrongLength, IfBadDescriptor, IfNotClean, IfOpenMisled, IfWrongLength, IsOpened, IsUnclean, MayBeOpened, OpensIfClean, bad_word, cause_of_opening, open_error, shape_words};
+ghost use Rattle.disk_descriptor.specs.Opening.{HasBadWord, HasCleanPage, HasWrongLength, IfBadDescriptor, IfNotClean, IfOpenMisled, IfWrongLength, IsOpened, IsUnclean, MayBeOpened, OpensIfClean, bad_word, cause_of_opening, open_error, shape_words};
 ghost use Rattle.disk_descriptor.specs.Fields.{AreSectors};
-ghost use Rattle.disk_descriptor.specs.Reading.{IsRead};
+ghost use Rattle.disk_descriptor.specs.Reading.{HasFirstPage, IsRead};
 
 use crate::OpenError;
 use crate::closing::CLEAN;
@@ -105,11 +107,13 @@ fn keep_read(
     requires sectors { AreSectors shape pages.now }
     requires sized { length table.old ≡ pages_of shape }
     ensures opened { (p : Pack) → IsRead p disk_descriptor words.now pages.now size → p.shape ≡ shape → IfOk result (λ kept. IsOpened p kept table.new) }
+    ensures clean { IfOk result (λ kept. kept.mark ≡ mark_clean) }
+    ensures clean_page { (p : Pack) (f : Fid) → HasFirstPage p f words.now → p.shape ≡ shape → OnOk result (HasCleanPage p f) }
     ensures wrong_length { (p : Pack) → IsRead p disk_descriptor words.now pages.now size → p.shape ≡ shape → IfWrongLength result (HasWrongLength p) }
     ensures bad_word { (p : Pack) → IsRead p disk_descriptor words.now pages.now size → p.shape ≡ shape → IfBadDescriptor result (HasBadWord p) }
     ensures not_clean { (p : Pack) → IsRead p disk_descriptor words.now pages.now size → p.shape ≡ shape → IfNotClean result (IsUnclean p) }
     ensures misled { IfOpenMisled result (λ place at wanted found. ⊥) }
-    ensures cause { (old new : Taped) → HasCause cause_of_opening old new result }
+    ensures cause { (old new : Taped) → Unfailed old new → HasCause cause_of_opening old new result }
     ensures want { IsErrOf result OpenError.Memory → ⊥ }
     ensures shape { IfOk result (λ kept. kept.shape ≡ shape) }
     ensures sized { length table.new ≡ length table.old }
@@ -140,7 +144,8 @@ fn keep_read(
 /// Misled: the address of the entry, or a next link of DiskDescriptor, names no usable sector, or one that doesn't carry its page. Then, in
 /// this order: WrongLength, DiskDescriptor isn't as long as for this shape; BadDescriptor, word 0, 1, 2, 3 or 8 says another shape;
 /// NotClean, the mark isn't the clean one. DiskFault: the device failed. Memory: none was left, which no disk that is modelled answers
-/// here. After each of them the table is as before.
+/// here. After each of them the table is as before. On a pack that carries a page twice too, it is Ok only if a sector that carries page 1
+/// of the file has the clean mark and the right words.
 pub fn enter_pack<D: Disk>(
     disk: &mut D,
     hints: &mut Hints,
@@ -148,6 +153,8 @@ pub fn enter_pack<D: Disk>(
 ) -> Result<Descriptor, OpenError>
     requires sized { length hints.old.table ≡ pages_of (D.tape disk.old).form }
     ensures opened { IsTrue D.told → MayBeOpened (pack (D.tape disk.old)) entry.now → IfOk result (λ kept. IsOpened (pack (D.tape disk.old)) kept hints.new.table) }
+    ensures clean { IfOk result (λ kept. kept.mark ≡ mark_clean) }
+    ensures clean_page { IsTrue D.told → OnOk result (HasCleanPage (pack (D.tape disk.old)) entry.now.fid) }
     ensures wrong_length { IsTrue D.told → MayBeOpened (pack (D.tape disk.old)) entry.now → IfWrongLength result (HasWrongLength (pack (D.tape disk.old))) }
     ensures bad_word { IsTrue D.told → MayBeOpened (pack (D.tape disk.old)) entry.now → IfBadDescriptor result (HasBadWord (pack (D.tape disk.old))) }
     ensures not_clean { IsTrue D.told → MayBeOpened (pack (D.tape disk.old)) entry.now → IfNotClean result (IsUnclean (pack (D.tape disk.old))) }

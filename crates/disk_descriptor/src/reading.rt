@@ -1,5 +1,5 @@
 // DiskDescriptor as it is read: its words, and the sectors that carry its pages.
-ghost use Rattle.std.specs.Prelude.{◌≡◌, ◌*◌, ◌<◌, ◌≤◌, IsErrOf, IsTrue, IfOk, [], length, set};
+ghost use Rattle.std.specs.Prelude.{◌≡◌, ◌*◌, ◌<◌, ◌≤◌, IsErrOf, IsTrue, IfOk, OnOk, [], length, set};
 ghost use Rattle.disk_records.specs.Causes.{HasCause};
 ghost use Rattle.disk_records.specs.Tapes.{Looks, pack};
 ghost use Rattle.pack_model.specs.hints.Misled.{IsOnDisk};
@@ -10,7 +10,7 @@ ghost use Rattle.page_seeking.specs.Causes.{cause_of_file};
 ghost use Rattle.page_seeking.specs.Refs.{FileIsFrom, FileIsRooted, IfBeyond, IfMisled, MisledBy};
 ghost use Rattle.page_seeking.specs.Seeking.{KeepsHandy};
 ghost use Rattle.disk_descriptor.specs.Fields.{AreSectors};
-ghost use Rattle.disk_descriptor.specs.Reading.{IsRead};
+ghost use Rattle.disk_descriptor.specs.Reading.{HasFirstPage, IsRead};
 
 use disk_records::{Disk, PAGE_BYTES, Sector};
 use hint_cache::Hints;
@@ -25,6 +25,7 @@ const PAGE_WORDS: usize = 256;
 /// Keeps the words of data page n, counted from 0, and the virtual address of its sector, if it is one of the first five.
 fn keep_page(words: &mut [u16; 1280], pages: &mut [u16; 5], n: u16, at: u16, value: &[u16; 256])
     ensures words { n < 5 → words.new ≡ put_at (256 * n) value.now words.old }
+    ensures other_words { 5 ≤ n → words.new ≡ words.old }
     ensures pages { n < 5 → pages.new ≡ set pages.old n at }
     ensures others { 5 ≤ n → pages.new ≡ pages.old }
     ensures many { length words.new ≡ 1280 }
@@ -51,6 +52,7 @@ pub(crate) fn read_file<D: Disk>(
 ) -> Result<u32, FileError>
     requires sectors { AreSectors (D.tape disk.old).form pages.old }
     ensures read { IsTrue D.told → EachOnce (sights (pack (D.tape disk.old))) → IfOk result (IsRead (pack (D.tape disk.old)) file.now.fid words.new pages.new) }
+    ensures first_page { IsTrue D.told → OnOk result (HasFirstPage (pack (D.tape disk.old)) file.now.fid words.new) }
     ensures sectors { AreSectors (D.tape disk.old).form pages.new }
     ensures many { length words.new ≡ 1280 }
     ensures room { length pages.new ≡ 5 }

@@ -1,5 +1,5 @@
 // Values of DiskDescriptor's pages, written where its descriptor says that they are.
-ghost use Rattle.std.specs.Prelude.{◌≡◌, ◌+◌, ◌<◌, ◌≤◌, ◌∷◌, IsTrue, [], length};
+ghost use Rattle.std.specs.Prelude.{◌≡◌, ◌+◌, ◌<◌, ◌≤◌, ◌∷◌, IsOk, IsTrue, [], length};
 ghost use Rattle.disk_records.specs.Addresses.{pages_of};
 ghost use Rattle.disk_records.specs.Causes.{HasCause};
 ghost use Rattle.disk_records.specs.Causes.Cause.{never};
@@ -58,6 +58,18 @@ pub(crate) fn write_page<D: Disk>(
     }
 }
 
+/// Has the device take all that was written before anything that comes. DiskFault: it failed.
+pub(crate) fn settle<D: Disk>(disk: &mut D) -> Result<(), DescError>
+    ensures told { IsTrue D.told → IsOk result × (D.tape disk.new ≡ D.tape disk.old) }
+    ensures cause { HasCause (cause_of never) (D.tape disk.old) (D.tape disk.new) result }
+    ensures alone { DiskAlone (D.tape disk.old) (D.tape disk.new) }
+{
+    match disk.settle() {
+        Ok(()) => Ok(()),
+        Err(_) => Err(DescError::DiskFault),
+    }
+}
+
 /// Puts words in the place of others in DiskDescriptor's first data page, which the sector at the virtual address `at` is to carry. Three
 /// sector commands, one record write.
 pub(crate) fn change_words<D: Disk>(
@@ -81,4 +93,45 @@ pub(crate) fn change_words<D: Disk>(
         }
         Err(error) => Err(error_at(at, error)),
     }
+}
+
+/// As `change_words`, and at Ok the device has taken it before anything that comes.
+pub(crate) fn change_and_settle<D: Disk>(
+    disk: &mut D,
+    at: u16,
+    word: usize,
+    words: &[u16],
+) -> Result<(), DescError>
+    requires first { 1 ≤ at }
+    requires place { at < pages_of (D.tape disk.old).form }
+    requires within { word + length words.now ≤ 256 }
+    ensures guarded { IsTrue D.told → WritesOwn (at ∷ []) (value_writes at (put_at word words.now (sector_at (pack (D.tape disk.old)) at).value)) 3 (D.tape disk.old) (D.tape disk.new) result }
+    ensures cause { HasCause (cause_of never) (D.tape disk.old) (D.tape disk.new) result }
+    ensures alone { DiskAlone (D.tape disk.old) (D.tape disk.new) }
+{
+    change_words(disk, at, word, words)?;
+    settle(disk)
+}
+
+/// As `write_page`, as a pack is closed: when the page that has the mark is written, the device has taken all that was written before, and at
+/// Ok the mark, before anything that comes.
+pub(crate) fn write_closing<D: Disk>(
+    disk: &mut D,
+    at: u16,
+    number: u16,
+    value: &[u16; 256],
+) -> Result<(), DescError>
+    requires first { 1 ≤ at }
+    requires place { at < pages_of (D.tape disk.old).form }
+    ensures writes { IsTrue D.told → Writes DescError.Memory (value_writes at value.now) 2 (D.tape disk.old) (D.tape disk.new) result }
+    ensures guarded { IsTrue D.told → GuardsPage at number (D.tape disk.old) (D.tape disk.new) result }
+    ensures cause { HasCause (cause_of never) (D.tape disk.old) (D.tape disk.new) result }
+    ensures alone { DiskAlone (D.tape disk.old) (D.tape disk.new) }
+{
+    if number > 1 {
+        return write_page(disk, at, number, value);
+    }
+    settle(disk)?;
+    write_page(disk, at, number, value)?;
+    settle(disk)
 }

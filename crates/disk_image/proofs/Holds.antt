@@ -68,13 +68,13 @@ puts_more buffer bytes items put now n base o at from end f e k len room ordered
 pub puts_alone : (at : ℕ) (bytes : List ℕ) (ahead new : Held) → HoldsNone ahead → Puts at bytes ahead new → HoldsAll at bytes new
 puts_alone at bytes ahead new none puts k = puts k ∙ ap (λ (old : Option ℕ). if is_among at (length bytes) k then Some (get_or bytes (k - at) 0) else old) (none k)
 
--- where nothing is held bytes are refused only for want of memory
+-- where nothing is held bytes are refused only if no memory is left
 pub refused_by_none : (at count : ℕ) (held : Held) → HoldsNone held → IsRefused at count held → IsTooMuch at count held
 refused_by_none at count held none refused = ⊎_elim (λ (much : IsTooMuch at count held). much) (λ (apart : IsApart at count held).
     let among : is_among (first_place held) (held.end - held.from) (first_place held) ≡ true = grind (arith, nat_tests, apart.0) in
     let there = rw among at (none (first_place held)) in cc) refused
 
--- a sector is taken: beside those bytes that are held, alone, or not held for want of memory
+-- a sector is taken: beside those bytes that are held, alone, or, with no memory left, not held
 pub takes_beside : (at : ℕ) (s : Sector) (old put new : Held) → new ≡ put → IsLater at old → Puts at (sector_bytes s) old put → TakesSector at s old new
 takes_beside at s old put new same later puts = subst (λ (held : Held). TakesSector at s old held) (sym same) (inl (later, puts))
 

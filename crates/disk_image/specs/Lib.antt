@@ -3,6 +3,7 @@ pub mod Holding
 pub mod Images
 pub mod Kept
 pub mod Laws
+pub mod Locks
 pub mod Machines
 pub mod Records
 pub mod Starts

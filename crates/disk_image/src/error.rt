@@ -19,9 +19,12 @@ pub enum ImageError {
 #[derive(Clone, Copy, Debug, PartialEq, Eq, Error)]
 pub enum ReachError {
     /// A file can't be opened for reading and writing, or a new one can't be made or is there already, or both are one file, or
-    /// `/dev/null` can't be opened.
+    /// `/dev/null` can't be opened, or no lock can be taken of a file.
     #[error("no pack")]
     NoFile,
+    /// Another process has a file: one that may write it, or any where this one may.
+    #[error("pack in use")]
+    InUse,
     /// A file has this many bytes, which are not those of 2 to 406 cylinders of 12,768 bytes.
     #[error("bad length {bytes}")]
     BadLength { bytes: u64 },

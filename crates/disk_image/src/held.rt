@@ -10,6 +10,11 @@
 // So a kill within a call leaves a prefix of the writes that were put, and of the one that crosses the multiple its front. A sector that
 // crosses one and is put again isn't held with what it was before: its front would stand as it was put last, and its rest as it was before
 // both.
+//
+// One sector in eight crosses a multiple. It is held as others are, since it can be the only one that a kill within the call parts there.
+// To hold it once more with what it was before would let a claim's label stand without the value that was written before it; that it isn't
+// costs a call more for each such sector that is claimed. A page is 4,096 bytes, the least that Linux has: where it has larger ones each
+// multiple of theirs is one of 4,096 too.
 ghost use Rattle.std.specs.Prelude.{◌<◌, ◌≤◌, vec_len};
 
 use crate::codec::{SECTOR_BYTES, write_sector};

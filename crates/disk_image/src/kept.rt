@@ -5,6 +5,9 @@
 // kept from then on. Once a sector was written each one that is read is, and none takes the place of another: a session that makes files
 // comes back to the cylinders that it reads. Memory for all sectors of the pack is taken once, before the first is kept, and touched as it
 // is needed. Where it is refused nothing is ever kept.
+//
+// Words are kept and not bytes: they are converted once, and a sweep of what is kept copies words alone. Under a limit on memory what is
+// kept may be what others lack; it isn't given back, since no call can be told that it is wanted.
 ghost use Rattle.std.specs.Prelude.{◌≡◌, ◌≢◌, ℕ, length, None, IfOk, IsTrue};
 ghost use Rattle.std.specs.Option.{option_copied, option_map};
 ghost use Rattle.disk_image.specs.Kept.{kept_at, place_of, HasRoom, KeepsCylinder};

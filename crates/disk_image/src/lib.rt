@@ -9,7 +9,10 @@
 //! 2. `decode_pack` refuses a file for its length if and only if that isn't the length of 2 to 406 cylinders (`IsImageErrorAt`), and
 //!    `decode_two` two files for the first such length, or for two lengths that differ (`IsErrorOfTwo`).
 //! 3. `start_of` takes exactly the command lines `[--cylinders C] [--second PACK2] PACK WORDS` with C from 2 to 406 (`start`).
-//! 4. `FileMachine` meets what disk_records asks of every machine: a fault is answered only where the count of its own device rose,
+//! 4. A pack file belongs to one process that may write it, or to some that read it alone, as long as their machines are there (`reach`,
+//!    `reach_to_read`, `create`): whoever comes too late is told InUse, and whoever takes no lock isn't hindered. That a machine over files
+//!    that are there has their locks is a clause (`locked`); what a lock does is the outside's, and tested.
+//! 5. `FileMachine` meets what disk_records asks of every machine: a fault is answered only where the count of its own device rose,
 //!    and a mismatch only for a record that was to be checked.
 //!
 //! `FileMachine` is the edge to the outside. What a real file, terminal or pipe does is trusted and not proved, so it isn't modelled:
@@ -22,8 +25,9 @@
 //! after a flush that answers Ok. Of the sectors that are kept in memory it is proved what a command reads of them, and that they are what
 //! memory holds after each command, also after one that writes (`ObeysKept`) and after the call that reads one of them (`LooksKept`). Of the
 //! texts that are held back on their way to the display it is proved which bytes they are after each that is shown (`TakesText`), and that
-//! none are held after a call that fails or a flush of the display that answers Ok. That a command takes these steps in this order, and when
-//! what is held back is handed on, is tested.
+//! none are held after a call that fails or a flush of the display that answers Ok; of `settle`, that after an Ok no file was written since the device
+//! was last asked for it (`IsSettled`); and of keys, that none are waited for while texts are held back, unless a line is known to be there
+//! whole (`waits`). That a command takes these steps in this order, and when what is held back is handed on, is tested.
 #![tactic(auto)]
 
 mod codec;
@@ -33,6 +37,7 @@ mod error;
 mod held;
 mod kept;
 pub mod laws;
+mod locks;
 mod machine;
 mod pair;
 mod placed;
@@ -45,6 +50,7 @@ mod texts;
 
 pub use codec::{decode_pack, encode_pack};
 pub use error::{ImageError, ReachError};
+pub use locks::Lockable;
 pub use machine::FileMachine;
 pub use pair::{decode_two, encode_two};
 pub use start::{Start, start_of};

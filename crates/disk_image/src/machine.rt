@@ -4,7 +4,10 @@
 // sector's cylinder, in the file of its drive, makes one read call for all of it, and keeps it: until another cylinder is read for the
 // first time, before any write, or for good where it was read before or a sector was written. Where there is no memory for that, or the cylinder
 // can't be read whole, it goes to the sector and makes one read call for the records before its first Write. A command that begins with
-// a Write reads nothing. To go to a place makes no call: each read and write call names its place (placed.rt).
+// a Write reads nothing. To go to a place makes no call: each read and write call names its place (placed.rt). So the first two sweeps of a
+// pack at most read its files, and the others read memory; a session that has written before its first sweep reads each cylinder once more
+// at most. A write to a sector that isn't kept doesn't keep it, though all of it is known then. A cylinder that can't be read whole is tried
+// again at the next sector, so a fault of a read is that of its own sector.
 //
 // A command that writes hands its sector on whole. The records before its first Write were read or compared just before, so memory has
 // them as they stand. The bytes are held back (held.rt) as long as those of one command after another touch or overlap, are all in four
@@ -15,37 +18,51 @@
 // records.rt of the number of calls holds for calls that are neither short nor interrupted by a signal: after a short one another does the
 // rest, and an interrupted one is made again.
 //
+// After a write call that fails a prefix of its bytes may stand, if the call was short and the one for the rest failed, and which the outside
+// doesn't tell. It may be no prefix of the record writes, as a growth claims the page after the last one first. To hold back only bytes that
+// come right after those that are held would keep it one, but a claim writes its sector twice, so that most sectors would be a call of their
+// own.
+//
 // That a process which is stopped leaves a prefix of its record writes in the files, each of them whole, is a premise. It holds for one
 // that is stopped between two calls, of which the first wasn't short: the record writes that are held back are the last ones, and none of
 // them stands. It holds for one that a signal kills within a write call unless a record of it crosses the multiple of 4,096 bytes of its
 // file at which the call ends then: Linux writes the bytes of a call in rising order and looks for such a signal between two pages of
-// memory, and all that is held from a multiple on was written after all that is held before it, but for a sector that crosses it. That one
+// memory, and all that is held from a multiple on was written after all that is held before it, except for a sector that crosses it. That one
 // was written between them; of a record of it that crosses the multiple the front may be new and the rest old. About one sector in 8
 // has such a record; the first is the value of a file's sector 7, which is the bytes 3,744 to 4,255. The premise doesn't hold where a call
 // writes a part of its bytes and the one for the rest fails, or is stopped by a limit on the size of files that lies within them: they
-// stand in the order of the file, which needn't be that of the commands. Nothing is synced to the device, so a power failure may leave
-// less; and a machine that is dropped without a flush takes along what it holds back.
+// stand in the order of the file, which needn't be that of the commands. A machine that is dropped without a flush takes along what it
+// holds back.
+//
+// Where the power fails, the device may have any of the write calls that were made since the last `settle`, and needn't have the others:
+// `settle` asks the device for each file that was written since the one before, by one call, and answers Ok only if it has them all.
 //
 // The file's length is asked for before its first write call, by a seek to its end; the write calls that follow go by the length that was
 // answered. It is asked for again after a flush, unless a line that was read ahead is there whole then, after a read of keys that weren't
 // read ahead, and after a write call of texts: so a session asks once for lines whose keys were read together and whose replies are handed
 // on together, and no write goes by what was answered before keys or the display were waited for. No write makes the file longer, unless
 // another process shortens the file after the question: the time in which it can is that from the question to the last write call that
-// goes by it.
+// goes by it. It isn't asked for once a session: a file that another process shortened between two lines that a person types would be made
+// longer. `format`, `prepare` and `scavenge` ask once for what they write between two flushes. The question is a seek to the end, which takes
+// a quarter of the time of a call for all that the outside knows of the file.
 // Where the file is too short by that length, or the call fails, the command fails in which that was tried, or the flush; what is held back
 // stays so and is tried again first, so nothing goes ahead of it, and the length is asked for again. So it is after a read call that is
 // short.
 //
 // Keys are read ahead. Those of one line that were are taken at once, and none past the line's end (`read_piece`). Whether the end of a
-// line is among them is known by one search after each read call that brought keys (`has_line`).
+// line is among them is known by one search after each read call that brought keys (`has_line`). 16,384 keys are read ahead at most: to touch
+// memory for more takes longer than the calls that it saves.
 //
 // Texts that are shown are held back, one after the other, in memory for 4,096 bytes (texts.rt). They are handed on to the display by one
 // write call at `flush_display`, and before a text for which there is no room after them; that text is then held. One of more than 4,096
 // bytes is written at once, by a call of its own, after those that were held. Where no memory was left to hold texts, each is written at
 // once. The record writes that were handed on before a text was shown stand in the files before anyone sees it. After a call that fails
 // nothing is held any more, and no byte is handed on again: the display may have some of them. A machine that is dropped without
-// `flush_display` takes along what it holds back.
-ghost use Rattle.std.specs.Prelude.{◌≡◌, ◌≢◌, ℕ, ◌-◌, ◌<◌, ◌≤◌, false, [], length, take, slice_index, IfOk, IfErr, OnErr};
+// `flush_display` takes along what it holds back. After a fault of the display lines that were typed ahead may have been obeyed; none of them
+// is acknowledged whose reply wasn't shown. A call for each short reply takes as long as much of the line. A `read` that handed on by itself
+// would need an answer for a display that fails, and a keyboard has none; so the session asks for it, before keys are waited for, before
+// `quit` and at its end.
+ghost use Rattle.std.specs.Prelude.{◌≡◌, ◌≢◌, ℕ, ◌-◌, ◌<◌, ◌≤◌, false, [], length, take, drop, slice_index, IfOk, IfErr, OnErr};
 ghost use Rattle.std.specs.Option.{ForNone};
 ghost use Rattle.std.specs.Io.{ReadsAtMost};
 ghost use Rattle.std.specs.Io.Buffered.{reader_buffer, reader_remaining};
@@ -53,6 +70,7 @@ ghost use Rattle.std.specs.Io.KnownBytes.{Consumes, IsAtEnd, Keeps};
 ghost use Rattle.std.specs.IoError.{error_kind};
 ghost use Rattle.disk_records.specs.Addresses.{disks_of};
 ghost use Rattle.disk_records.specs.Tapes.{IsUnbroken};
+ghost use Rattle.disk_image.specs.Machines.{EndsLine};
 
 use crate::command::{compare, read_in_file, write_in_file};
 use crate::drives::{OnDrive, drive_of};
@@ -103,6 +121,7 @@ pub struct FileMachine<'a, R: Files + Input + Print> {
     key_faults: u64,
     show_faults: u64,
     ghost one_drive: { ForNone second (disks_of shape ≡ 1) },
+    ghost ends_line: { EndsLine keys_after keys },
 }
 
 impl<'a, R: Files + Input + Print> Tape for FileMachine<'a, R> {
@@ -124,9 +143,9 @@ where
     ghost use Rattle.std.proofs.lemmas.Bool.{false≢true};
     ghost use Rattle.disk_records.specs.Addresses.{pages_of};
     ghost use Rattle.disk_records.specs.Checks.{is_legal, is_checked};
-    ghost use Rattle.disk_records.specs.Tapes.{DiskAlone, IfMismatch, Ran, Rose};
+    ghost use Rattle.disk_records.specs.Tapes.{DiskAlone, IfMismatch, Ran, Rose, UnlessFailed};
     ghost use Rattle.disk_image.specs.Kept.{LooksKept};
-    ghost use Rattle.disk_image.specs.Machines.{CountsFault, HasNoLine, KnowsNoLength};
+    ghost use Rattle.disk_image.specs.Machines.{CountsFault, HasNoLine, IsSettled, KnowsNoLength};
     ghost use Rattle.disk_image.specs.Records.{writes_after_all};
 
     fn shape(&self) -> Shape {
@@ -143,6 +162,7 @@ where
         requires legal { IsTrue (is_legal plan) }
         ensures alone { DiskAlone (⟦<FileMachine<'a, R> as Tape>⟧.tape self.old) (⟦<FileMachine<'a, R> as Tape>⟧.tape self.new) }
         ensures failed { IsErrOf result DiskError.Failed → Rose (⟦<FileMachine<'a, R> as Tape>⟧.tape self.old).disk_faults (⟦<FileMachine<'a, R> as Tape>⟧.tape self.new).disk_faults }
+        ensures unfailed { UnlessFailed result ((⟦<FileMachine<'a, R> as Tape>⟧.tape self.new).disk_faults ≡ (⟦<FileMachine<'a, R> as Tape>⟧.tape self.old).disk_faults) }
         ensures checked { IfMismatch result (λ part word. IsTrue (is_checked plan part)) }
         ensures ran { IsTrue ⟦<FileMachine<'a, R> as Tape>⟧.told → Ran at plan buf.old buf.new (⟦<FileMachine<'a, R> as Tape>⟧.tape self.old) (⟦<FileMachine<'a, R> as Tape>⟧.tape self.new) result }
 
@@ -166,6 +186,7 @@ where
         requires place { at < pages_of (⟦<FileMachine<'a, R> as Tape>⟧.tape self.old).form }
         ensures alone { DiskAlone (⟦<FileMachine<'a, R> as Tape>⟧.tape self.old) (⟦<FileMachine<'a, R> as Tape>⟧.tape self.new) }
         ensures failed { IsErrOf result DiskError.Failed → Rose (⟦<FileMachine<'a, R> as Tape>⟧.tape self.old).disk_faults (⟦<FileMachine<'a, R> as Tape>⟧.tape self.new).disk_faults }
+        ensures unfailed { UnlessFailed result ((⟦<FileMachine<'a, R> as Tape>⟧.tape self.new).disk_faults ≡ (⟦<FileMachine<'a, R> as Tape>⟧.tape self.old).disk_faults) }
         ensures checked { IfMismatch result (λ part word. IsTrue (is_checked Plan.READ part)) }
         ensures ran { IsTrue ⟦<FileMachine<'a, R> as Tape>⟧.told → Ran at Plan.READ buf.old buf.new (⟦<FileMachine<'a, R> as Tape>⟧.tape self.old) (⟦<FileMachine<'a, R> as Tape>⟧.tape self.new) result }
 
@@ -188,6 +209,7 @@ where
         ensures handed_on { OnOk result (⟦<FileMachine<'a, R> as Tape>⟧.handed_on self.new) }
         ensures alone { DiskAlone (⟦<FileMachine<'a, R> as Tape>⟧.tape self.old) (⟦<FileMachine<'a, R> as Tape>⟧.tape self.new) }
         ensures failed { OnErr result (Rose (⟦<FileMachine<'a, R> as Tape>⟧.tape self.old).disk_faults (⟦<FileMachine<'a, R> as Tape>⟧.tape self.new).disk_faults) }
+        ensures unfailed { OnOk result ((⟦<FileMachine<'a, R> as Tape>⟧.tape self.new).disk_faults ≡ (⟦<FileMachine<'a, R> as Tape>⟧.tape self.old).disk_faults) }
         ensures only { IfErr result (λ error. error ≡ DiskError.Failed) }
         ensures told { IsTrue ⟦<FileMachine<'a, R> as Tape>⟧.told → IsOk result × ((⟦<FileMachine<'a, R> as Tape>⟧.tape self.new) ≡ (⟦<FileMachine<'a, R> as Tape>⟧.tape self.old)) }
 
@@ -207,6 +229,34 @@ where
         }
     }
 
+    /// It hands on what `flush` hands on, and then waits for the device of each file that was written since it was last waited for, by one
+    /// call each; it makes none where nothing was written, and takes no memory. After Failed the files that weren't settled count as such
+    /// still. The next write call of each file asks for its length again, unless a line is there whole.
+    fn settle(&mut self) -> Result<(), DiskError>
+        ensures handed_on { OnOk result (⟦<FileMachine<'a, R> as Tape>⟧.handed_on self.new) }
+        ensures alone { DiskAlone (⟦<FileMachine<'a, R> as Tape>⟧.tape self.old) (⟦<FileMachine<'a, R> as Tape>⟧.tape self.new) }
+        ensures failed { OnErr result (Rose (⟦<FileMachine<'a, R> as Tape>⟧.tape self.old).disk_faults (⟦<FileMachine<'a, R> as Tape>⟧.tape self.new).disk_faults) }
+        ensures unfailed { OnOk result ((⟦<FileMachine<'a, R> as Tape>⟧.tape self.new).disk_faults ≡ (⟦<FileMachine<'a, R> as Tape>⟧.tape self.old).disk_faults) }
+        ensures only { IfErr result (λ error. error ≡ DiskError.Failed) }
+        ensures told { IsTrue ⟦<FileMachine<'a, R> as Tape>⟧.told → IsOk result × ((⟦<FileMachine<'a, R> as Tape>⟧.tape self.new) ≡ (⟦<FileMachine<'a, R> as Tape>⟧.tape self.old)) }
+
+        // What is counted, and what of the files is left to the device and known.
+        ensures fault { CountsFault (IsErrOf result DiskError.Failed) (⟦<FileMachine<'a, R> as Tape>⟧.tape self.old).disk_faults (⟦<FileMachine<'a, R> as Tape>⟧.tape self.new).disk_faults }
+        ensures same_writes { (⟦<FileMachine<'a, R> as Tape>⟧.tape self.new).writes ≡ (⟦<FileMachine<'a, R> as Tape>⟧.tape self.old).writes }
+        ensures settled { OnOk result (IsSettled self.new.first self.new.second) }
+        ensures forgotten { HasNoLine self.old.keys_after self.old.keys → KnowsNoLength self.new.first self.new.second }
+    {
+        let answer = self.settle_all();
+        self.forget_unless_line();
+        match answer {
+            Ok(()) => Ok(()),
+            Err(_) => {
+                self.disk_faults = self.disk_faults.saturating_add(1);
+                Err(DiskError::Failed)
+            }
+        }
+    }
+
     ghost counted = { λ m told. absurd (false≢true told) };
 
     ghost sized = { λ m told. absurd (false≢true told) };
@@ -216,17 +266,24 @@ where
 
 impl<'a, R: Files + Input + Print> Console for FileMachine<'a, R> {
     ghost use Rattle.std.specs.Prelude.{◌≡◌, ◌-◌, ◌<◌, ◌≤◌, length, take, IfOk, IfErr, IsErrOf, IsFalse, IsOk, IsTrue, OnErr, OnOk};
-    ghost use Rattle.disk_records.specs.Tapes.{KeysAlone, ShowAlone, HasRead, HasShown, IsUnbroken, Rose};
+    ghost use Rattle.disk_records.specs.Tapes.{KeysAlone, ShowAlone, HasRead, HasShown, IsUnbroken, Rose, UnlessBroken};
     ghost use Rattle.disk_image.specs.Machines.{CountsFault, HasNoLine, KnowsNoLength};
     ghost use Rattle.disk_image.specs.Texts.{HoldsNoText, IsTooLong, TakesText};
 
     ghost displayed = { λ m. HoldsNoText m.texts };
 
-    /// A read that a signal interrupts is made again. The next write call of each file asks for its length again. It takes no memory.
+    ghost waits = { λ m. HasNoLine m.keys_after m.keys };
+
+    /// It takes keys of one line that were read ahead, as `read_piece` does, and where none is left of them it reads. A read that a signal
+    /// interrupts is made again. The next write call of each file asks for its length again. It takes no memory.
     fn read(&mut self, buf: &mut [u8]) -> Result<usize, ConsoleError>
-        requires { 0 < length buf.old }
+        requires some { 0 < length buf.old }
+        requires answered { ⟦<FileMachine<'a, R> as Console>⟧.waits self.old → ⟦<FileMachine<'a, R> as Console>⟧.displayed self.old }
+        ensures displayed { ⟦<FileMachine<'a, R> as Console>⟧.displayed self.old → ⟦<FileMachine<'a, R> as Console>⟧.displayed self.new }
+        ensures goes_on { IfOk result (λ n. IsUnbroken (take n buf.new) → ⟦<FileMachine<'a, R> as Console>⟧.waits self.new → ⟦<FileMachine<'a, R> as Console>⟧.waits self.old) }
         ensures alone { KeysAlone (⟦<FileMachine<'a, R> as Tape>⟧.tape self.old) (⟦<FileMachine<'a, R> as Tape>⟧.tape self.new) }
         ensures failed { IsErrOf result ConsoleError.Failed → Rose (⟦<FileMachine<'a, R> as Tape>⟧.tape self.old).key_faults (⟦<FileMachine<'a, R> as Tape>⟧.tape self.new).key_faults }
+        ensures unfailed { UnlessBroken result ((⟦<FileMachine<'a, R> as Tape>⟧.tape self.new).key_faults ≡ (⟦<FileMachine<'a, R> as Tape>⟧.tape self.old).key_faults) }
         ensures fits { IfOk result (λ n. n ≤ length buf.old) }
         ensures read { IsTrue ⟦<FileMachine<'a, R> as Tape>⟧.told → HasRead buf.old buf.new (⟦<FileMachine<'a, R> as Tape>⟧.tape self.old) (⟦<FileMachine<'a, R> as Tape>⟧.tape self.new) result }
 
@@ -236,11 +293,12 @@ impl<'a, R: Files + Input + Print> Console for FileMachine<'a, R> {
         ensures forgotten { KnowsNoLength self.new.first self.new.second }
     {
         self.forget_lengths();
-        let was_empty = self.keys.buffer().is_empty();
-        let answer = read_keys(&mut self.keys, buf);
-        if was_empty {
-            self.keys_after = keys_after_lines(self.keys.buffer());
+        let taken = take_read_ahead(&mut self.keys, buf);
+        if taken > 0 {
+            return Ok(taken);
         }
+        let answer = read_keys(&mut self.keys, buf);
+        self.keys_after = keys_after_lines(self.keys.buffer());
         match answer {
             Ok(count) => Ok(count),
             Err(_) => {
@@ -253,12 +311,16 @@ impl<'a, R: Files + Input + Print> Console for FileMachine<'a, R> {
     /// It takes all keys of the line that were read ahead and that `buf` has place for, and one key where none is left of them. A read that a
     /// signal interrupts is made again. Where none is left, the next write call of each file asks for its length again. It takes no memory.
     fn read_piece(&mut self, buf: &mut [u8]) -> Result<usize, ConsoleError>
-        requires { 0 < length buf.old }
+        requires some { 0 < length buf.old }
+        requires answered { ⟦<FileMachine<'a, R> as Console>⟧.waits self.old → ⟦<FileMachine<'a, R> as Console>⟧.displayed self.old }
+        ensures displayed { ⟦<FileMachine<'a, R> as Console>⟧.displayed self.old → ⟦<FileMachine<'a, R> as Console>⟧.displayed self.new }
+        ensures goes_on { IfOk result (λ n. IsUnbroken (take n buf.new) → ⟦<FileMachine<'a, R> as Console>⟧.waits self.new → ⟦<FileMachine<'a, R> as Console>⟧.waits self.old) }
         ensures alone { KeysAlone (⟦<FileMachine<'a, R> as Tape>⟧.tape self.old) (⟦<FileMachine<'a, R> as Tape>⟧.tape self.new) }
         ensures failed { IsErrOf result ConsoleError.Failed → Rose (⟦<FileMachine<'a, R> as Tape>⟧.tape self.old).key_faults (⟦<FileMachine<'a, R> as Tape>⟧.tape self.new).key_faults }
+        ensures unfailed { UnlessBroken result ((⟦<FileMachine<'a, R> as Tape>⟧.tape self.new).key_faults ≡ (⟦<FileMachine<'a, R> as Tape>⟧.tape self.old).key_faults) }
         ensures fits { IfOk result (λ n. n ≤ length buf.old) }
         ensures read { IsTrue ⟦<FileMachine<'a, R> as Tape>⟧.told → HasRead buf.old buf.new (⟦<FileMachine<'a, R> as Tape>⟧.tape self.old) (⟦<FileMachine<'a, R> as Tape>⟧.tape self.new) result }
-        ensures unbroken { IsTrue ⟦<FileMachine<'a, R> as Tape>⟧.told → IfOk result (λ n. IsUnbroken (take (n - 1) buf.new)) }
+        ensures unbroken { IfOk result (λ n. IsUnbroken (take (n - 1) buf.new)) }
 
         // What is counted, and what never comes.
         ensures fault { CountsFault (IsErrOf result ConsoleError.Failed) (⟦<FileMachine<'a, R> as Tape>⟧.tape self.old).key_faults (⟦<FileMachine<'a, R> as Tape>⟧.tape self.new).key_faults }
@@ -287,6 +349,7 @@ impl<'a, R: Files + Input + Print> Console for FileMachine<'a, R> {
         ensures handed_on { ⟦<FileMachine<'a, R> as Tape>⟧.handed_on self.new }
         ensures alone { ShowAlone (⟦<FileMachine<'a, R> as Tape>⟧.tape self.old) (⟦<FileMachine<'a, R> as Tape>⟧.tape self.new) }
         ensures failed { IsErrOf result ConsoleError.Failed → Rose (⟦<FileMachine<'a, R> as Tape>⟧.tape self.old).show_faults (⟦<FileMachine<'a, R> as Tape>⟧.tape self.new).show_faults }
+        ensures unfailed { UnlessBroken result ((⟦<FileMachine<'a, R> as Tape>⟧.tape self.new).show_faults ≡ (⟦<FileMachine<'a, R> as Tape>⟧.tape self.old).show_faults) }
         ensures shown { IsTrue ⟦<FileMachine<'a, R> as Tape>⟧.told → HasShown bytes.now (⟦<FileMachine<'a, R> as Tape>⟧.tape self.old) (⟦<FileMachine<'a, R> as Tape>⟧.tape self.new) result }
 
         // What is counted, what never comes, and what is held back.
@@ -310,6 +373,7 @@ impl<'a, R: Files + Input + Print> Console for FileMachine<'a, R> {
     /// call of each file asks for its length again. It takes no memory.
     fn flush_display(&mut self) -> Result<(), ConsoleError>
         ensures displayed { OnOk result (HoldsNoText self.new.texts) }
+        ensures lines { ⟦<FileMachine<'a, R> as Console>⟧.waits self.new → ⟦<FileMachine<'a, R> as Console>⟧.waits self.old }
         ensures same { OnOk result ((⟦<FileMachine<'a, R> as Tape>⟧.tape self.new) ≡ (⟦<FileMachine<'a, R> as Tape>⟧.tape self.old)) }
         ensures handed_on { ⟦<FileMachine<'a, R> as Tape>⟧.handed_on self.old → ⟦<FileMachine<'a, R> as Tape>⟧.handed_on self.new }
         ensures alone { ShowAlone (⟦<FileMachine<'a, R> as Tape>⟧.tape self.old) (⟦<FileMachine<'a, R> as Tape>⟧.tape self.new) }
@@ -339,8 +403,8 @@ where
 {}
 
 impl<'a, R: Files + Input + Print> FileMachine<'a, R> {
-    ghost use Rattle.std.specs.Prelude.{◌≡◌};
-    ghost use Rattle.disk_image.specs.Machines.{HasNoLine, IsUntouched, KnowsNoLength};
+    ghost use Rattle.std.specs.Prelude.{◌≡◌, Some, IfSome};
+    ghost use Rattle.disk_image.specs.Machines.{HasNoLine, IsSettled, IsUntouched, KnowsNoLength};
     ghost use Rattle.disk_image.specs.Texts.{IsTooLong};
 
     /// A machine over the files of a pack of this shape, before its first call. Where the shape has two drives there is a second file.
@@ -358,6 +422,8 @@ impl<'a, R: Files + Input + Print> FileMachine<'a, R> {
         ensures handed_on { ⟦<FileMachine<'a, R> as Tape>⟧.handed_on result }
         ensures form { (⟦<FileMachine<'a, R> as Tape>⟧.tape result).form ≡ shape }
         ensures displayed { ⟦<FileMachine<'a, R> as Console>⟧.displayed result }
+        ensures first { result.first.file ≡ first }
+        ensures second { IfSome result.second (λ placed. second ≡ Some placed.file) }
     {
         let keys_after = keys_after_lines(keys.buffer());
         FileMachine {
@@ -383,6 +449,9 @@ impl<'a, R: Files + Input + Print> FileMachine<'a, R> {
         ensures same { (⟦<FileMachine<'a, R> as Tape>⟧.tape self.new) ≡ (⟦<FileMachine<'a, R> as Tape>⟧.tape self.old) }
         ensures handed_on { ⟦<FileMachine<'a, R> as Tape>⟧.handed_on self.old → ⟦<FileMachine<'a, R> as Tape>⟧.handed_on self.new }
         ensures same_texts { self.new.texts ≡ self.old.texts }
+        ensures settled { IsSettled self.old.first self.old.second → IsSettled self.new.first self.new.second }
+        ensures same_keys { self.new.keys ≡ self.old.keys }
+        ensures same_after { self.new.keys_after ≡ self.old.keys_after }
     {
         self.first.forget_length();
         if let Some(second) = &mut self.second {
@@ -395,6 +464,7 @@ impl<'a, R: Files + Input + Print> FileMachine<'a, R> {
         ensures forgotten { HasNoLine self.old.keys_after self.old.keys → KnowsNoLength self.new.first self.new.second }
         ensures same { (⟦<FileMachine<'a, R> as Tape>⟧.tape self.new) ≡ (⟦<FileMachine<'a, R> as Tape>⟧.tape self.old) }
         ensures handed_on { ⟦<FileMachine<'a, R> as Tape>⟧.handed_on self.old → ⟦<FileMachine<'a, R> as Tape>⟧.handed_on self.new }
+        ensures settled { IsSettled self.old.first self.old.second → IsSettled self.new.first self.new.second }
     {
         if self.has_line() {
             return;
@@ -592,6 +662,30 @@ where
     }
 }
 
+impl<'a, R: Files + Input + Print> FileMachine<'a, R>
+where
+    R::File: FileExt,
+{
+    ghost use Rattle.std.specs.Prelude.{◌≡◌, IfSome, OnOk};
+    ghost use Rattle.disk_image.specs.Holding.{HoldsNone};
+    ghost use Rattle.disk_image.specs.Machines.{HasNoLine, IsSettled};
+
+    /// Hands on what is held back of the files, and waits for the devices of those that were written since they were last waited for.
+    fn settle_all(&mut self) -> io::Result<()>
+        ensures same { (⟦<FileMachine<'a, R> as Tape>⟧.tape self.new) ≡ (⟦<FileMachine<'a, R> as Tape>⟧.tape self.old) }
+        ensures first { OnOk result (HoldsNone self.new.first.held) }
+        ensures second { OnOk result (IfSome self.new.second (λ file. HoldsNone file.held)) }
+        ensures settled { OnOk result (IsSettled self.new.first self.new.second) }
+        ensures no_line { HasNoLine self.old.keys_after self.old.keys → HasNoLine self.new.keys_after self.new.keys }
+    {
+        self.first.settle()?;
+        if let Some(second) = &mut self.second {
+            second.settle()?;
+        }
+        Ok(())
+    }
+}
+
 /// Counts the keys of the line that these begin with: up to its end, or all of them if none ends it.
 fn keys_of_line(keys: &[u8]) -> usize
     ensures fits { result ≤ length keys.now }
@@ -623,6 +717,9 @@ fn take_read_ahead<R: Read>(keys: &mut BufReader<R>, buf: &mut [u8]) -> usize
     ensures taken { Consumes (reader_remaining R.remaining keys.old) (reader_remaining R.remaining keys.new) (take result buf.new) }
     ensures unbroken { IsUnbroken (take (result - 1) buf.new) }
     ensures none { reader_buffer keys.old ≡ [] → result ≡ 0 }
+    ensures some { 0 < length buf.old → result ≡ 0 → reader_buffer keys.old ≡ [] }
+    ensures front { take result buf.new ≡ take result (reader_buffer keys.old) }
+    ensures left { reader_buffer keys.new ≡ drop result (reader_buffer keys.old) }
 {
     let ready = keys.buffer();
     let most = ready.len().min(buf.len());

@@ -3,10 +3,10 @@
 // memory of the file that follow each other, in an order in which one call may write them all (held.rt). They go ahead of all that is read
 // or written after them.
 //
-// The file's length is asked for before the first write call, before the first after the machine forgot it (machine.rt), before the first
-// after an error of a write call or of that question, and before the first after a read call that brought fewer bytes than were asked for,
-// as of a file that was shortened. The other write calls go by the length that was answered then.
-ghost use Rattle.std.specs.Prelude.{◌≡◌, ◌⊎◌, ◌↔◌, ◌+◌, ◌≤◌, length, None, Some, IfSome, IsSomeAnd, IsTrue, OnOk, OnErr};
+// The file's length is asked for before the first write call, and before the first after the machine forgot it (machine.rt). So it is
+// before the first after an error of a write call or of that question, and before the first after a read call that brought fewer bytes than
+// were asked for, as of a file that was shortened. The other write calls go by the length that was answered then.
+ghost use Rattle.std.specs.Prelude.{◌≡◌, ◌⊎◌, ◌↔◌, ◌+◌, ◌≤◌, false, length, None, Some, IfSome, IsSomeAnd, IsTrue, OnOk, OnErr};
 ghost use Rattle.disk_records.specs.Tapes.{capped};
 ghost use Rattle.disk_image.specs.Holding.{HoldsNone, TakesSector};
 
@@ -14,6 +14,7 @@ use crate::codec::{SECTOR_BYTES, write_sector};
 use crate::held::Held;
 use disk_records::Sector;
 use std::alloc::Global;
+use std::fs::OpenFile;
 use std::io;
 use std::io::{Error, ErrorKind, Read, Seek, SeekFrom};
 use std::os::unix::fs::FileExt;
@@ -37,6 +38,8 @@ pub(crate) struct Placed<F> {
     at: u64,
     // what was written and isn't in the file yet
     held: Held,
+    // whether a write call was made that the device needn't have yet
+    is_unsettled: bool,
     // the length in bytes that the file answered when it was asked last, where it wasn't forgotten since then, and no error of a write call or
     // of that question came, and no read call that brought fewer bytes than were asked for
     known_length: Option<u64>,
@@ -45,6 +48,7 @@ pub(crate) struct Placed<F> {
 impl<F> Placed<F> {
     /// A file at its first byte, of which nothing is held back.
     pub(crate) fn new(alloc: Global, file: F) -> Placed<F>
+        ensures file { result.file ≡ file }
         ensures place { result.at ≡ 0 }
         ensures none { HoldsNone result.held }
         ensures unknown { result.known_length ≡ None }
@@ -53,6 +57,7 @@ impl<F> Placed<F> {
             file,
             at: 0,
             held: Held::new(alloc),
+            is_unsettled: false,
             known_length: None,
         }
     }
@@ -62,6 +67,7 @@ impl<F> Placed<F> {
         ensures forgotten { self.new.known_length ≡ None }
         ensures same_held { self.new.held ≡ self.old.held }
         ensures same_place { self.new.at ≡ self.old.at }
+        ensures same_settled { self.new.is_unsettled ≡ self.old.is_unsettled }
     {
         self.known_length = None;
     }
@@ -80,6 +86,7 @@ impl<F: FileExt + Seek> Placed<F> {
             return Ok(());
         }
         let at = self.held.place();
+        self.is_unsettled = true;
         write_within(
             &mut self.file,
             &mut self.known_length,
@@ -116,9 +123,27 @@ impl<F: FileExt + Seek> Placed<F> {
         ensures same_held { self.new.held ≡ self.old.held }
         ensures same_place { self.new.at ≡ self.old.at }
     {
+        self.is_unsettled = true;
         let mut bytes = [0; SECTOR_BYTES];
         write_sector(sector, &mut bytes);
         write_within(&mut self.file, &mut self.known_length, self.at, &bytes)
+    }
+}
+
+impl<F: FileExt + OpenFile + Seek> Placed<F> {
+    /// Hands on what is held back, and waits until the device has all that was written. Where nothing was since it was last waited for, no
+    /// call is made. After an error the file counts as unsettled still, if it was written.
+    pub(crate) fn settle(&mut self) -> io::Result<()>
+        ensures ok { OnOk result (HoldsNone self.new.held) }
+        ensures settled { OnOk result (self.new.is_unsettled ≡ false) }
+        ensures place { self.new.at ≡ self.old.at }
+    {
+        self.hand_on()?;
+        if self.is_unsettled {
+            self.file.sync_data()?;
+            self.is_unsettled = false;
+        }
+        Ok(())
     }
 }
 

@@ -1,9 +1,9 @@
 -- Events one after another: what is shown, written and counted of the first ones.
-use Rattle.std.proofs.Common.{◌≡◌, ℕ, ◌+◌, ◌-◌, ◌<◌, ◌≤◌, zero, suc, List, [], ◌∷◌, ◌++◌, length, take, drop, get_or, refl, sym, ◌∙◌, ap, add-one, drop_of_length-le, arith}
-use Rattle.std.proofs.lemmas.List.{take_more}
+use Rattle.std.proofs.Common.{◌≡◌, ◌↔◌, IsNone, None, Option, Some, ℕ, ◌+◌, ◌-◌, ◌<◌, ◌≤◌, zero, suc, List, [], ◌∷◌, ◌++◌, length, take, drop, get_or, refl, sym, ◌∙◌, ap, add-one, drop_of_length-le, arith}
+use Rattle.std.proofs.lemmas.List.{at_drop_more, take_more}
 use Rattle.disk_records.specs.declared.records.Event.{Event}
 use Rattle.disk_records.specs.declared.records.Event.TheVariants.{Wrote, Shown}
-use Rattle.disk_records.specs.Events.{shown_bytes, place_of_write, writes_in}
+use Rattle.disk_records.specs.Events.{next_write, shown_bytes, place_of_write, writes_in}
 use Rattle.disk_records.proofs.Growing.{shown-append}
 
 -- one event more
@@ -59,3 +59,32 @@ pub place_end : (events : List Event) (k i left n : ℕ) → length events ≤ i
 place_end events k i left n past within is so_far =
     let none : place_of_write (drop i events) left ≡ 0 = ap (λ l. place_of_write l left) (drop_of_length-le events past) ∙ none_left left in
     omega (arith, so_far, none, is)
+
+-- ---- the record write after the first k
+-- there is none if and only if the events have no more than k
+none_written : (events : List Event) (k : ℕ) → IsNone (next_write events k) ↔ writes_in events ≤ k
+none_written [] k = ((λ none. omega arith), (λ less. refl))
+none_written (Wrote at part words ∷ events) zero = ((λ none. absurd cc), (λ less. absurd (omega arith)))
+none_written (Wrote at part words ∷ events) (suc k) =
+    let rest = none_written events k in
+    ((λ none. let less = rest.0 none in omega (arith, less)), (λ less. rest.1 (omega (arith, less))))
+none_written (Shown byte ∷ events) k = none_written events k
+
+-- the same of an answer that is that one
+pub none_answered : (events : List Event) (k : ℕ) (r : Option (ℕ × ℕ)) → r ≡ next_write events k → IsNone r ↔ writes_in events ≤ k
+none_answered events k r is = rw is (none_written events k)
+
+-- the first of the events left
+next_first : (event : Event) (events : List Event) (left : ℕ) (place : ℕ × ℕ) → left ≡ 0 → Some place ≡ next_write (event ∷ []) 0 → next_write (event ∷ events) left ≡ Some place
+next_first (Wrote at part words) events left place none is = rw none (sym is)
+next_first (Shown byte) events left place none is = absurd cc
+
+pub next_here : (events items : List Event) (k i left : ℕ) (event : Event) (place : ℕ × ℕ) → items ≡ events → i < length items → event ≡ get_or items i event → left ≡ 0 → Some place ≡ next_write (event ∷ []) 0 → next_write events k ≡ next_write (drop i events) left → Some place ≡ next_write events k
+next_here events items k i left event place same within is none wrote so_far =
+    let first : next_write (drop i items) left ≡ next_write (event ∷ drop (i + 1) items) left =
+    at_drop_more (λ l. next_write l left) items i event within ∙ ap (λ e. next_write (e ∷ drop (i + 1) items) left) (sym is) in
+    sym (so_far ∙ ap (λ l. next_write (drop i l) left) (sym same) ∙ first ∙ next_first event (drop (i + 1) items) left place none wrote)
+
+-- all events were passed
+pub next_end : (events items : List Event) (k i left : ℕ) → items ≡ events → length items ≤ i → next_write events k ≡ next_write (drop i events) left → None ≡ next_write events k
+next_end events items k i left same past so_far = sym (so_far ∙ ap (λ l. next_write (drop i l) left) (sym same) ∙ ap (λ l. next_write l left) (drop_of_length-le items past))

@@ -4,8 +4,7 @@ use Rattle.std.proofs.lemmas.List.Elements.{All-append, All-cons, All-nil, All-s
 use Rattle.std.proofs.lemmas.Grind.{take_at_read}
 use Rattle.std.specs.Prelude.{All}
 use Rattle.disk_memory.specs.Storing.{record_words}
-use Rattle.disk_records.specs.Packs.{IsFormed, after_all, with_part}
-use Rattle.disk_records.specs.declared.records.Event.{Event}
+use Rattle.disk_records.specs.Packs.{IsFormed, with_part}
 use Rattle.disk_records.specs.declared.records.Sector.{Sector}
 
 -- a sector of which one record is written

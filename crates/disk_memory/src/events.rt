@@ -1,7 +1,7 @@
 // Lists of events.
 ghost use Rattle.std.specs.Prelude.{◌≡◌, ◌+◌, ◌≤◌, [], ◌∷◌, ◌++◌, length, OnOk};
 ghost use Rattle.std.specs.Vec.{vec_len, vec_capacity};
-ghost use Rattle.disk_records.specs.Events.{shown_bytes, shown_events, writes_in};
+ghost use Rattle.disk_records.specs.Events.{next_write, shown_bytes, shown_events, writes_in};
 
 use crate::block::push_ready;
 use disk_records::Event;
@@ -14,6 +14,16 @@ pub fn writes_of_event(event: &Event) -> u64
     match event {
         Event::Wrote { .. } => 1,
         Event::Shown { .. } => 0,
+    }
+}
+
+/// The sector and the record that an event writes, if it writes one.
+pub fn written_by(event: &Event) -> Option<(u16, u8)>
+    ensures { result ≡ next_write (event.now ∷ []) 0 }
+{
+    match event {
+        Event::Wrote { at, part, .. } => Some((*at, *part)),
+        Event::Shown { .. } => None,
     }
 }
 

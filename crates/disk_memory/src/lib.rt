@@ -5,7 +5,7 @@
 //! faults are the constant 0, so no fault is ever answered over it (`no_fault_of_sure_machine`). `MemMachine` holds one,
 //! and its calls fail if and only if they are set to; only a sector command that is to fail may answer Memory instead,
 //! where there is none for the record writes that it makes first. Either can be cut: the cut machine has the sectors as
-//! they stood after a prefix of the events.
+//! they stood after a prefix of the events; and either tells which record write comes after the first k (`next_write`).
 #![tactic(auto)]
 
 mod block;

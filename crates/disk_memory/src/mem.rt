@@ -36,7 +36,7 @@ impl Disk for MemMachine {
     ghost use Rattle.disk_records.specs.Addresses.{pages_of};
     ghost use Rattle.disk_records.specs.Checks.{is_checked};
     ghost use Rattle.disk_records.specs.Packs.{IsFormed};
-    ghost use Rattle.disk_records.specs.Tapes.{DiskAlone, IfMismatch, Ran, Rose};
+    ghost use Rattle.disk_records.specs.Tapes.{DiskAlone, IfMismatch, UnlessFailed, Ran, Rose};
     ghost use Rattle.disk_memory.specs.Failing.{HasFailed, IsCalled, IsSure, next_failure};
 
     fn shape(&self) -> Shape {
@@ -53,6 +53,7 @@ impl Disk for MemMachine {
         requires { at < pages_of (⟦<MemMachine as Tape>⟧.tape self.old).form }
         ensures alone { DiskAlone (⟦<MemMachine as Tape>⟧.tape self.old) (⟦<MemMachine as Tape>⟧.tape self.new) }
         ensures failed { IsErrOf result DiskError.Failed → Rose (⟦<MemMachine as Tape>⟧.tape self.old).disk_faults (⟦<MemMachine as Tape>⟧.tape self.new).disk_faults }
+        ensures unfailed { UnlessFailed result ((⟦<MemMachine as Tape>⟧.tape self.new).disk_faults ≡ (⟦<MemMachine as Tape>⟧.tape self.old).disk_faults) }
         ensures checked { IfMismatch result (λ part word. IsTrue (is_checked plan part)) }
         ensures ran { IsTrue ⟦<MemMachine as Tape>⟧.told → Ran at plan buf.old buf.new (⟦<MemMachine as Tape>⟧.tape self.old) (⟦<MemMachine as Tape>⟧.tape self.new) result }
 
@@ -81,16 +82,20 @@ impl Disk for MemMachine {
 
 impl Console for MemMachine {
     ghost use Rattle.std.specs.Prelude.{◌≡◌, ◌+◌, ◌<◌, ◌≤◌, ◌↔◌, IsTrue, IfOk, IsErrOf, IsOk, IfNone, IsSome, is_some, if◌then◌else◌, length};
-    ghost use Rattle.disk_records.specs.Tapes.{KeysAlone, ShowAlone, HasRead, HasShown, Rose, capped};
+    ghost use Rattle.disk_records.specs.Tapes.{KeysAlone, ShowAlone, HasRead, HasShown, UnlessBroken, Rose, capped};
     ghost use Rattle.disk_memory.specs.Failing.{IsCalled, next_failure};
 
     ghost displayed = { λ m. Unit {0} };
 
+    ghost waits = { λ m. ⊥ };
+
     /// A call that is to fail takes no key and leaves the buffer as it was. The others take no memory and answer Ok.
     fn read(&mut self, buf: &mut [u8]) -> Result<usize, ConsoleError>
-        requires { 0 < length buf.old }
+        requires some { 0 < length buf.old }
+        requires answered { ⟦<MemMachine as Console>⟧.waits self.old → ⟦<MemMachine as Console>⟧.displayed self.old }
         ensures alone { KeysAlone (⟦<MemMachine as Tape>⟧.tape self.old) (⟦<MemMachine as Tape>⟧.tape self.new) }
         ensures failed { IsErrOf result ConsoleError.Failed → Rose (⟦<MemMachine as Tape>⟧.tape self.old).key_faults (⟦<MemMachine as Tape>⟧.tape self.new).key_faults }
+        ensures unfailed { UnlessBroken result ((⟦<MemMachine as Tape>⟧.tape self.new).key_faults ≡ (⟦<MemMachine as Tape>⟧.tape self.old).key_faults) }
         ensures fits { IfOk result (λ n. n ≤ length buf.old) }
         ensures read { IsTrue ⟦<MemMachine as Tape>⟧.told → HasRead buf.old buf.new (⟦<MemMachine as Tape>⟧.tape self.old) (⟦<MemMachine as Tape>⟧.tape self.new) result }
 
@@ -112,6 +117,7 @@ impl Console for MemMachine {
     fn show(&mut self, bytes: &[u8]) -> Result<(), ConsoleError>
         ensures alone { ShowAlone (⟦<MemMachine as Tape>⟧.tape self.old) (⟦<MemMachine as Tape>⟧.tape self.new) }
         ensures failed { IsErrOf result ConsoleError.Failed → Rose (⟦<MemMachine as Tape>⟧.tape self.old).show_faults (⟦<MemMachine as Tape>⟧.tape self.new).show_faults }
+        ensures unfailed { UnlessBroken result ((⟦<MemMachine as Tape>⟧.tape self.new).show_faults ≡ (⟦<MemMachine as Tape>⟧.tape self.old).show_faults) }
         ensures shown { IsTrue ⟦<MemMachine as Tape>⟧.told → HasShown bytes.now (⟦<MemMachine as Tape>⟧.tape self.old) (⟦<MemMachine as Tape>⟧.tape self.new) result }
 
         // Which calls fail.
@@ -136,9 +142,9 @@ impl Console for MemMachine {
 impl Machine for MemMachine {}
 
 impl MemMachine {
-    ghost use Rattle.std.specs.Prelude.{◌≡◌, ◌+◌, ◌<◌, ◌≤◌, IfOk, IfErr, OnOk, OnErr, length};
+    ghost use Rattle.std.specs.Prelude.{◌≡◌, ◌+◌, ◌<◌, ◌≤◌, ◌↔◌, IfOk, IfErr, IsNone, OnOk, OnErr, length};
     ghost use Rattle.disk_records.specs.Addresses.{pages_of};
-    ghost use Rattle.disk_records.specs.Events.{place_of_write, shown_bytes};
+    ghost use Rattle.disk_records.specs.Events.{next_write, place_of_write, shown_bytes, writes_in};
     ghost use Rattle.disk_records.specs.Packs.{sector_at};
     ghost use Rattle.disk_records.specs.Tapes.{DiskAlone, Ran, capped, pack};
     ghost use Rattle.disk_memory.specs.Making.{IsNewErrorAt, IsCut, first_tape};
@@ -202,6 +208,15 @@ impl MemMachine {
         ensures { result ≡ place_of_write (⟦<MemMachine as Tape>⟧.tape self.now).events k }
     {
         self.machine.place_of_write(k)
+    }
+
+    /// The sector (a virtual address) and the part (0 header, 1 label, 2 value) of the record write after the first `k`: the one that follows
+    /// the cut with `k` record writes. None if and only if there are no more.
+    pub fn next_write(&self, k: u64) -> Option<(u16, u8)>
+        ensures next { result ≡ next_write (⟦<MemMachine as Tape>⟧.tape self.now).events k }
+        ensures none { IsNone result ↔ writes_in (⟦<MemMachine as Tape>⟧.tape self.now).events ≤ k }
+    {
+        self.machine.next_write(k)
     }
 
     /// A machine as this one stood after its first `count` events: the same shape and first sectors, these events and no

@@ -12,7 +12,7 @@ ghost use Rattle.disk_memory.specs.Storing.{is_formed_event};
 use crate::block::{Block, fill_up, push_ready};
 use crate::command::{replace_record, write_count};
 use crate::error::NewError;
-use crate::events::{add_shown_byte, push_shown, writes_of_event};
+use crate::events::{add_shown_byte, push_shown, writes_of_event, written_by};
 use alto_words::Memory;
 use disk_records::{
     Act, Console, ConsoleError, Disk, DiskError, Event, Machine, Plan, Sector, Shape, Tape,
@@ -84,9 +84,12 @@ impl Console for SureMachine {
 
     ghost displayed = { λ m. Unit {0} };
 
+    ghost waits = { λ m. ⊥ };
+
     /// It takes no memory and always answers Ok.
     fn read(&mut self, buf: &mut [u8]) -> Result<usize, ConsoleError>
-        requires { 0 < length buf.old }
+        requires some { 0 < length buf.old }
+        requires answered { ⟦<SureMachine as Console>⟧.waits self.old → ⟦<SureMachine as Console>⟧.displayed self.old }
         ensures alone { KeysAlone (⟦<SureMachine as Tape>⟧.tape self.old) (⟦<SureMachine as Tape>⟧.tape self.new) }
         ensures failed { IsErrOf result ConsoleError.Failed → Rose 0 0 }
         ensures fits { IfOk result (λ n. n ≤ length buf.old) }
@@ -116,9 +119,9 @@ impl Console for SureMachine {
 impl Machine for SureMachine {}
 
 impl SureMachine {
-    ghost use Rattle.std.specs.Prelude.{◌+◌, ◌∷◌, OnOk, OnErr, IfOk, IfErr, IsErrOf};
+    ghost use Rattle.std.specs.Prelude.{◌+◌, ◌↔◌, ◌∷◌, IsNone, OnOk, OnErr, IfOk, IfErr, IsErrOf};
     ghost use Rattle.disk_records.specs.Checks.{is_checked, write_of};
-    ghost use Rattle.disk_records.specs.Events.{place_of_write, shown_bytes, shown_events};
+    ghost use Rattle.disk_records.specs.Events.{next_write, place_of_write, shown_bytes, shown_events, writes_in};
     ghost use Rattle.disk_records.specs.Packs.{sector_at};
     ghost use Rattle.disk_records.specs.Tapes.{DiskAlone, IfMismatch, Ran, Rose, pack};
     ghost use Rattle.disk_memory.specs.Adding.{Adds, writes_by};
@@ -218,6 +221,25 @@ impl SureMachine {
             left -= writes_of_event(event);
         }
         self.events.len()
+    }
+
+    /// The sector (a virtual address) and the part (0 header, 1 label, 2 value) of the record write after the first `k`: the one that follows
+    /// the cut with `k` record writes. None if and only if there are no more.
+    pub fn next_write(&self, k: u64) -> Option<(u16, u8)>
+        ensures next { result ≡ next_write (⟦<SureMachine as Tape>⟧.tape self.now).events k }
+        ensures none { IsNone result ↔ writes_in (⟦<SureMachine as Tape>⟧.tape self.now).events ≤ k }
+    {
+        let mut left = k;
+        for event in &self.events {
+            let Some(place) = written_by(event) else {
+                continue;
+            };
+            if left == 0 {
+                return Some(place);
+            }
+            left -= 1;
+        }
+        None
     }
 
     /// A machine as this one stood after its first `count` events: the same shape and first sectors, these events and no

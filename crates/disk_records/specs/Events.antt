@@ -1,5 +1,5 @@
 -- Lists of events.
-use Rattle.std.specs.Prelude.{◌≡◌, ℕ, zero, suc, ◌+◌, List, [], ◌∷◌, map}
+use Rattle.std.specs.Prelude.{◌≡◌, ℕ, zero, suc, ◌+◌, List, [], ◌∷◌, map, Option, Some, None}
 use Rattle.disk_records.specs.declared.records.Event.{Event}
 use Rattle.disk_records.specs.declared.records.Event.TheVariants.{Wrote, Shown}
 
@@ -25,6 +25,13 @@ place_of_write events zero = 0
 place_of_write [] (suc k) = 0
 place_of_write (Wrote at part words ∷ events) (suc k) = suc (place_of_write events k)
 place_of_write (Shown byte ∷ events) (suc k) = suc (place_of_write events (suc k))
+
+-- the sector and the part of the record write after the first k, if there are more
+abbrev pub next_write : List Event → ℕ → Option (ℕ × ℕ)
+next_write [] k = None
+next_write (Wrote at part words ∷ events) zero = Some (at, part)
+next_write (Wrote at part words ∷ events) (suc k) = next_write events k
+next_write (Shown byte ∷ events) k = next_write events k
 
 -- these events are a prefix of the wanted, and no others
 abbrev pub IsFirstOf : List Event → List Event → Type 0

@@ -5,6 +5,7 @@ pub mod Labels
 pub mod Packs
 pub mod Checks
 pub mod Events
+pub mod Frames
 pub mod Commands
 pub mod Tapes
 pub mod Causes

@@ -2,6 +2,7 @@
 use Rattle.std.specs.Prelude.{◌≡◌, ◌≢◌, ℕ, ◌+◌, ◌-◌, ◌^◌, ◌<◌, ◌≤◌, ◌↔◌, min, Bool, IsTrue, List, [], ◌∷◌, ◌++◌, length, take, drop, Some, None, Result, Ok, Err, IsErrOf, OnOk, OnErr, IfOk}
 use Rattle.disk_records.specs.declared.records.Sector.{Sector}
 use Rattle.disk_records.specs.declared.records.Plan.{Plan}
+use Rattle.disk_records.specs.declared.records.Front.{Front}
 use Rattle.disk_records.specs.declared.records.Event.{Event}
 use Rattle.disk_records.specs.declared.shape.Shape.{Shape}
 use Rattle.disk_records.specs.declared.traits.DiskError.{DiskError}
@@ -116,6 +117,19 @@ IfMismatch (Err (Mismatch part word)) P = P part word
 IfMismatch (Err Failed) P = Unit {0}
 IfMismatch (Err Memory) P = Unit {0}
 
+-- this holds, unless the answer is a fault of the disk
+abbrev pub UnlessFailed : {T : Type 0} → Result T DiskError → Type 0 → Type 0
+UnlessFailed (Ok x) P = P
+UnlessFailed (Err (Mismatch part word)) P = P
+UnlessFailed (Err Failed) P = Unit {0}
+UnlessFailed (Err Memory) P = P
+
+-- this holds, unless the answer is a fault of the keyboard or the display
+abbrev pub UnlessBroken : {T : Type 0} → Result T ConsoleError → Type 0 → Type 0
+UnlessBroken (Ok x) P = P
+UnlessBroken (Err console.Failed) P = Unit {0}
+UnlessBroken (Err console.Memory) P = P
+
 -- one sector command: for every answer its record writes are a prefix of the plan's, and none where a checked word differs
 pub record Ran (at : ℕ) (plan : Plan) (memory buffer : Sector) (old new : Taped) (result : Result (Unit {0}) DiskError) : Type 0 where
   pub some : IsFirstOf (writes_of at plan memory) (added old new)
@@ -123,6 +137,14 @@ pub record Ran (at : ℕ) (plan : Plan) (memory buffer : Sector) (old new : Tape
   pub ok : OnOk result (RanWhole at plan memory buffer (pack old) (added old new))
   pub mismatch : IfMismatch result (RanAgainst at plan memory (pack old) (added old new))
   pub want : IsErrOf result Memory → RanShort at plan memory old new
+  pub runs : new.runs ≡ capped (old.runs + 1)
+
+-- the command that reads a sector whole, of which header and label alone are handed on: nothing is written, and it takes no memory
+pub record RanFront (at : ℕ) (front : Front) (old new : Taped) (result : Result (Unit {0}) DiskError) : Type 0 where
+  pub silent : added old new ≡ []
+  pub header : OnOk result (front.header ≡ (sector_at (pack old) at).header)
+  pub label : OnOk result (front.label ≡ (sector_at (pack old) at).label)
+  pub want : IsErrOf result Memory → ⊥
   pub runs : new.runs ≡ capped (old.runs + 1)
 
 -- no key of these ends a line: none is the byte 10

@@ -11,12 +11,16 @@
 //! 1. No call takes an event back or changes the shape (`Grown`).
 //! 2. A call that is given a disk shows nothing and takes no key; one that is given keys or the display touches no
 //!    sector (`DiskAlone`, `KeysAlone`, `ShowAlone`).
-//! 3. A device's fault is answered only where its own count rose (`failed`). Here and above a count *rose* too where it stands at
-//!    2^64 - 1, its type's end, and stays there (`Rose`).
+//! 3. A device's fault is answered only where its own count rose (`failed`), and at each other answer the count is as it was
+//!    (`unfailed`): a fault that came is answered. Here and above a count *rose* too where it stands at 2^64 - 1, its type's end, and stays
+//!    there (`Rose`). Of calls above `HasCause` says both of the disk.
 //! 4. On a modelled machine a sector command's record writes are a prefix of its plan's for every answer, all of it at
 //!    Ok, and none where a checked word differs (`Ran`).
-//! 5. Record writes may be held back until `flush`, and nothing can be shown before all are handed on (`handed_on`). Texts that are shown
-//!    may be held back until `flush_display` (`displayed`). Keys come by `read`, or by `read_piece`, which goes past no line's end.
+//! 5. Record writes may be held back until `flush`, and nothing can be shown before all are handed on (`handed_on`). `settle` is a barrier
+//!    for a machine that loses power. Texts that are shown may be held back until `flush_display` (`displayed`), and keys are read only
+//!    once they are displayed, unless a whole line is there (`waits`). Keys come by `read`, or by `read_piece`, which goes past no line's end.
+//! 6. `read_front` is the command that reads a sector whole, of which header and label alone are handed on (`RanFront`).
+//! And of packs: where record writes go, by what the sectors were before them (`WritesIn`).
 #![tactic(auto)]
 
 mod check;
@@ -32,7 +36,7 @@ pub use label::{
     bytes_in, is_free_label, label_of, next_link, page_of, previous_link, right_header,
 };
 pub use laws::label_reads_back;
-pub use records::{Act, Event, Page, Place, Plan, Sector, Tally};
+pub use records::{Act, Event, Front, Page, Place, Plan, Sector, Tally};
 pub use shape::Shape;
 pub use traits::{Console, ConsoleError, Disk, DiskError, LINE_END, Machine, Tape};
 pub use words::{PAGE_BYTES, bytes_into_words, put_in_words, words_into_bytes};

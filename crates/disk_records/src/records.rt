@@ -27,6 +27,23 @@ impl Sector {
     };
 }
 
+/// Header and label of a sector.
+#[derive(Clone, Copy, Debug, PartialEq, Eq, Drop)]
+pub struct Front {
+    /// The pack number and the sector's real address.
+    pub header: [u16; 2],
+    /// Next, previous, blank, bytes, page number, version, serial high, serial low.
+    pub label: [u16; 8],
+}
+
+impl Front {
+    /// Header and label of zeros.
+    pub const ZEROS: Front = Front {
+        header: [0; 2],
+        label: [0; 8],
+    };
+}
+
 /// What a sector command does with one record.
 #[derive(Clone, Copy, Debug, PartialEq, Eq)]
 pub enum Act {

@@ -1,8 +1,8 @@
 -- An error that an answer passes on: its cause, and that it isn't out of memory.
-use Rattle.std.proofs.Common.{◌≡◌, IsErrOf, Result, Ok, Err, refl, ap, sym, subst, ◌∙◌, arith}
+use Rattle.std.proofs.Common.{◌≡◌, IsErrOf, Result, Ok, Err, refl, ap, sym, subst, ◌∙◌}
 use Rattle.std.specs.Result.{IsErrAnd}
-use Rattle.disk_records.specs.Causes.{Cause, HasCause, IsCause}
-use Rattle.disk_records.specs.Tapes.{Grown, Taped}
+use Rattle.disk_records.specs.Causes.{Cause, HasCause, IsCause, Unfailed, disk, display, keyboard, never, other}
+use Rattle.disk_records.specs.Tapes.{Rose, Taped}
 use Rattle.label_check.specs.Causes.{cause_of_look}
 use Rattle.label_check.specs.declared.errors.LookError.{LookError}
 use Rattle.label_check.specs.declared.errors.LookError.TheVariants as look
@@ -28,57 +28,72 @@ use Rattle.exec_session.proofs.Stopping.{error_is}
 pub cause_passed : {U : Type 0} (a b : Taped) (e : Stop) (r : Result U Stop) → IsErrAnd r (λ x. x ≡ e) → IsCause a b (cause_of_stop e) → HasCause cause_of_stop a b r
 cause_passed a b e r is h = subst (HasCause cause_of_stop a b) (sym (error_is r is)) h
 
-cause_later : (e : Stop) (a b c : Taped) → Grown a b → IsCause b c (cause_of_stop e) → IsCause a c (cause_of_stop e)
-cause_later (stop.Refused r) a b c grown h = tt
-cause_later (stop.Misled place at wanted found) a b c grown h = tt
-cause_later stop.DiskFault a b c grown h = let less = grown.disk_faults in omega (arith, less, h)
-cause_later stop.Memory a b c grown h = tt
+cause_later : (e : Stop) (a b c : Taped) → Unfailed a b → IsCause b c (cause_of_stop e) → IsCause a c (cause_of_stop e)
+cause_later (stop.Refused r) a b c none h = h ∙ none
+cause_later (stop.Misled place at wanted found) a b c none h = h ∙ none
+cause_later stop.DiskFault a b c none h = subst (λ n. Rose n c.disk_faults) none h
+cause_later stop.Memory a b c none h = h ∙ none
 
-pub cause_after : {U : Type 0} (a b c : Taped) (e : Stop) (r : Result U Stop) → IsErrAnd r (λ x. x ≡ e) → Grown a b → IsCause b c (cause_of_stop e) → HasCause cause_of_stop a c r
-cause_after a b c e r is grown h = cause_passed a c e r is (cause_later e a b c grown h)
+pub cause_after : {U : Type 0} (a b c : Taped) (e : Stop) (r : Result U Stop) → IsErrAnd r (λ x. x ≡ e) → Unfailed a b → IsCause b c (cause_of_stop e) → HasCause cause_of_stop a c r
+cause_after a b c e r is none h = cause_passed a c e r is (cause_later e a b c none h)
 
 -- of a call that ends with a part
-pub cause_sooner : {U : Type 0} (a b c : Taped) (r : Result U Stop) → Grown a b → HasCause cause_of_stop b c r → HasCause cause_of_stop a c r
-cause_sooner a b c (Ok x) grown h = tt
-cause_sooner a b c (Err e) grown h = cause_later e a b c grown h
+pub cause_sooner : {U : Type 0} (a b c : Taped) (r : Result U Stop) → Unfailed a b → HasCause cause_of_stop b c r → HasCause cause_of_stop a c r
+cause_sooner a b c (Ok x) none h = h ∙ none
+cause_sooner a b c (Err e) none h = cause_later e a b c none h
 
 -- by the error of the call that failed
 pub cause_by_file : (a b : Taped) (e : FileError) → IsCause a b (cause_of_file e) → IsCause a b (cause_of_stop (stop_of_file e))
-cause_by_file a b (fault.Misled place at wanted found) h = tt
-cause_by_file a b (fault.Beyond length) h = tt
+cause_by_file a b (fault.Misled place at wanted found) h = h
+cause_by_file a b (fault.Beyond length) h = h
 cause_by_file a b fault.DiskFault h = h
-cause_by_file a b fault.Memory h = tt
+cause_by_file a b fault.Memory h = h
 
 pub cause_by_length : (a b : Taped) (e : FileError) → IsCause a b (cause_of_length e) → IsCause a b (cause_of_stop (stop_of_file e))
-cause_by_length a b (fault.Misled place at wanted found) h = tt
-cause_by_length a b (fault.Beyond length) h = tt
+cause_by_length a b (fault.Misled place at wanted found) h = h
+cause_by_length a b (fault.Beyond length) h = absurd h
 cause_by_length a b fault.DiskFault h = h
-cause_by_length a b fault.Memory h = tt
+cause_by_length a b fault.Memory h = h
 
-pub cause_by_dir : (absent taken full : Cause) (a b : Taped) (e : DirError) → IsCause a b (cause_of absent taken full e) → IsCause a b (cause_of_stop (stop_of_dir e))
-cause_by_dir absent taken full a b NoSuchName h = tt
-cause_by_dir absent taken full a b NameTaken h = tt
-cause_by_dir absent taken full a b (NoSlot largest) h = tt
-cause_by_dir absent taken full a b (File e) h = cause_by_length a b e h
+-- a refusal, where the call answers it, isn't by a device
+abbrev pub IsRefusal : Cause → Type 0
+IsRefusal disk = ⊥
+IsRefusal keyboard = ⊥
+IsRefusal display = ⊥
+IsRefusal other = Unit {0}
+IsRefusal never = Unit {0}
+
+pub cause_of_refusal : (cause : Cause) (a b : Taped) → IsRefusal cause → IsCause a b cause → Unfailed a b
+cause_of_refusal disk a b refusal h = absurd refusal
+cause_of_refusal keyboard a b refusal h = absurd refusal
+cause_of_refusal display a b refusal h = absurd refusal
+cause_of_refusal other a b refusal h = h
+cause_of_refusal never a b refusal h = absurd h
+
+pub cause_by_dir : (absent taken full : Cause) → IsRefusal absent → IsRefusal taken → IsRefusal full → (a b : Taped) (e : DirError) → IsCause a b (cause_of absent taken full e) → IsCause a b (cause_of_stop (stop_of_dir e))
+cause_by_dir absent taken full x y z a b NoSuchName h = cause_of_refusal absent a b x h
+cause_by_dir absent taken full x y z a b NameTaken h = cause_of_refusal taken a b y h
+cause_by_dir absent taken full x y z a b (NoSlot largest) h = cause_of_refusal full a b z h
+cause_by_dir absent taken full x y z a b (File e) h = cause_by_length a b e h
 
 pub cause_by_alloc : (a b : Taped) (e : AllocError) → IsCause a b (cause_of_alloc e) → IsCause a b (cause_of_stop (stop_of_alloc e))
-cause_by_alloc a b (alloc.Full needed free) h = tt
+cause_by_alloc a b (alloc.Full needed free) h = h
 cause_by_alloc a b alloc.DiskFault h = h
-cause_by_alloc a b alloc.Memory h = tt
+cause_by_alloc a b alloc.Memory h = h
 
-pub cause_by_desc : (spent : Cause) (a b : Taped) (e : DescError) → IsCause a b (desc_answers.cause_of spent e) → IsCause a b (cause_of_stop (stop_of_desc e))
-cause_by_desc spent a b (desc.Spent last) h = tt
-cause_by_desc spent a b (desc.Held at found) h = tt
-cause_by_desc spent a b desc.DiskFault h = h
-cause_by_desc spent a b desc.Memory h = tt
+pub cause_by_desc : (spent : Cause) → IsRefusal spent → (a b : Taped) (e : DescError) → IsCause a b (desc_answers.cause_of spent e) → IsCause a b (cause_of_stop (stop_of_desc e))
+cause_by_desc spent x a b (desc.Spent last) h = cause_of_refusal spent a b x h
+cause_by_desc spent x a b (desc.Held at found) h = h
+cause_by_desc spent x a b desc.DiskFault h = h
+cause_by_desc spent x a b desc.Memory h = h
 
 pub cause_by_look : (a b : Taped) (e : LookError) → IsCause a b (cause_of_look e) → IsCause a b (cause_of_stop (stop_of_look e))
 cause_by_look a b look.DiskFault h = h
-cause_by_look a b look.Memory h = tt
+cause_by_look a b look.Memory h = h
 
 -- of a refusal
-pub cause_refused : {U : Type 0} (a b : Taped) (e : Stop) (x : Refusal) (r : Result U Stop) → IsErrAnd r (λ y. y ≡ e) → e ≡ stop.Refused x → HasCause cause_of_stop a b r
-cause_refused a b e x r is refuses = cause_passed a b e r is (subst (λ s. IsCause a b (cause_of_stop s)) (sym refuses) tt)
+pub cause_refused : {U : Type 0} (a b : Taped) (e : Stop) (x : Refusal) (r : Result U Stop) → IsErrAnd r (λ y. y ≡ e) → e ≡ stop.Refused x → Unfailed a b → HasCause cause_of_stop a b r
+cause_refused a b e x r is refuses none = cause_passed a b e r is (subst (λ s. IsCause a b (cause_of_stop s)) (sym refuses) none)
 
 -- ---- memory was left, where the call that failed says so
 wanted_by_file : (e : FileError) → stop_of_file e ≡ stop.Memory → e ≡ fault.Memory

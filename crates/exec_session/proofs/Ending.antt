@@ -288,10 +288,10 @@ stopped_formed form stop.DiskFault k h = h
 stopped_formed form stop.Memory k h = h
 
 pub stopped_cause : (a b : Taped) (x : Stop) → IsCause a b (cause_of_stop x) → IsCause a b (cause_of_reply (stopped x))
-stopped_cause a b (stop.Refused r) h = tt
-stopped_cause a b (stop.Misled place at wanted found) h = tt
+stopped_cause a b (stop.Refused r) h = h
+stopped_cause a b (stop.Misled place at wanted found) h = h
 stopped_cause a b stop.DiskFault h = h
-stopped_cause a b stop.Memory h = tt
+stopped_cause a b stop.Memory h = h
 
 pub stops_end : (x : Stop) → IfRefused {T = Unit {0}} (Err x) (λ r. ⊥) → IsEndAnswer (stopped x)
 stops_end (stop.Refused r) unrefused = absurd unrefused

@@ -6,7 +6,7 @@ use Rattle.alto_words.specs.declared.wanted.Wanted.{Wanted}
 use Rattle.alto_words.specs.declared.wanted.Wanted.TheVariants.{Exact, Newest}
 use Rattle.alto_words.specs.Names.{most_version, with_version}
 use Rattle.alto_words.specs.Wanted.{base_wanted}
-use Rattle.disk_records.specs.Causes.{HasCause}
+use Rattle.disk_records.specs.Causes.{HasCause, Unfailed}
 use Rattle.disk_records.specs.Packs.{Pack}
 use Rattle.disk_records.specs.Tapes.{Taped}
 use Rattle.disk_records.specs.declared.records.Page.{Page}
@@ -100,13 +100,13 @@ module _ (base : List ℕ) (n : ℕ) where
       by true (Some name) = tt
       by false v = tt
 
-  pub after_cause : (a b : Taped) → HasCause cause_of_stop a b (version_after base n)
-  after_cause a b = by (nat_lt n most_version) (with_version base (n + 1))
+  pub after_cause : (a b : Taped) → Unfailed a b → HasCause cause_of_stop a b (version_after base n)
+  after_cause a b none = by (nat_lt n most_version) (with_version base (n + 1))
     where
       by : (t : Bool) (v : Option (List ℕ)) → HasCause cause_of_stop a b (cond t (named_or_taken v) (Err (Refused refusal.NameTaken)))
-      by true None = tt
-      by true (Some name) = tt
-      by false v = tt
+      by true None = none
+      by true (Some name) = none
+      by false v = none
 
   pub after_unwanted : IsErrOf (version_after base n) stop.Memory → ⊥
   after_unwanted = by (nat_lt n most_version) (with_version base (n + 1))

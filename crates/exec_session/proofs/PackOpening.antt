@@ -1,5 +1,5 @@
 -- Why a pack isn't opened, by what keeps each step from being done.
-use Rattle.std.proofs.Common.{◌≡◌, ℕ, zero, suc, ◌==◌, Bool, true, false, cond, List, [], ◌∷◌, Option, Some, None, Result, Ok, Err, IfOk, refl, sym, subst, ◌∙◌, ap, arith, eq-eqb}
+use Rattle.std.proofs.Common.{◌≡◌, ℕ, zero, suc, ◌==◌, Bool, true, false, cond, List, [], ◌∷◌, Option, Some, None, Result, Ok, Err, IfOk, OnOk, refl, sym, subst, ◌∙◌, ap, arith, eq-eqb}
 use Rattle.std.proofs.lemmas.Bool.Decides.{nat_tests}
 use Rattle.std.specs.Option.{option_or}
 use Rattle.std.specs.Prelude.{Contains, IfErr}
@@ -7,9 +7,9 @@ use Rattle.std.specs.Result.{IsErrAnd}
 use Rattle.alto_words.specs.declared.fid.Fid.{Fid}
 use Rattle.alto_words.specs.Fid.{disk_descriptor, sys_dir}
 use Rattle.disk_records.specs.Addresses.{descriptor_length}
-use Rattle.disk_records.specs.Causes.{HasCause, IsCause}
+use Rattle.disk_records.specs.Causes.{HasCause, IsCause, Unfailed}
 use Rattle.disk_records.specs.Packs.{Pack, carried, label_found}
-use Rattle.disk_records.specs.Tapes.{Grown, Taped}
+use Rattle.disk_records.specs.Tapes.{Rose, Taped}
 use Rattle.disk_records.specs.Words.{word}
 use Rattle.disk_descriptor.specs.Opening.{HasBadWord, HasWrongLength, IfBadDescriptor, IfNotClean, IfOpenMisled, IfWrongLength, IsOpened, IsUnclean, bad_word, cause_of_opening, shape_words}
 use Rattle.disk_descriptor.specs.Fields.{Fields}
@@ -193,37 +193,42 @@ pub ok_of_open_error : {U : Type 0} (P : OpenError → Type 0) (Q : U → Type 0
 ok_of_open_error P Q (Ok x) is = absurd is
 ok_of_open_error P Q (Err x) is = tt
 
+-- what holds at Ok holds of each answer
+pub if_ok_of : {U P : Type 0} (Q : U → Type 0) (r : Result U OpenError) → OnOk r P → ((x : U) → P → Q x) → IfOk r Q
+if_ok_of Q (Ok x) is more = more x is
+if_ok_of Q (Err e) is more = tt
+
 -- its cause, in the first call or after others
 pub open_cause : {U : Type 0} (a b : Taped) (e : OpenError) (r : Result U OpenError) → IsErrAnd r (λ x. x ≡ e) → IsCause a b (cause_of_open e) → HasCause cause_of_open a b r
 open_cause a b e r is h = subst (HasCause cause_of_open a b) (sym (answer_is r is)) h
 
-open_cause_later : (e : OpenError) (a b c : Taped) → Grown a b → IsCause b c (cause_of_open e) → IsCause a c (cause_of_open e)
-open_cause_later (error.NoRoot found) a b c grown h = tt
-open_cause_later error.NoDescriptor a b c grown h = tt
-open_cause_later (error.Misled place at wanted found) a b c grown h = tt
-open_cause_later (error.WrongLength size) a b c grown h = tt
-open_cause_later (error.BadDescriptor w found) a b c grown h = tt
-open_cause_later (error.NotClean mark) a b c grown h = tt
-open_cause_later error.DiskFault a b c grown h = let less = grown.disk_faults in omega (arith, less, h)
-open_cause_later error.Memory a b c grown h = tt
+open_cause_later : (e : OpenError) (a b c : Taped) → Unfailed a b → IsCause b c (cause_of_open e) → IsCause a c (cause_of_open e)
+open_cause_later (error.NoRoot found) a b c none h = h ∙ none
+open_cause_later error.NoDescriptor a b c none h = h ∙ none
+open_cause_later (error.Misled place at wanted found) a b c none h = h ∙ none
+open_cause_later (error.WrongLength size) a b c none h = h ∙ none
+open_cause_later (error.BadDescriptor w found) a b c none h = h ∙ none
+open_cause_later (error.NotClean mark) a b c none h = h ∙ none
+open_cause_later error.DiskFault a b c none h = subst (λ n. Rose n c.disk_faults) none h
+open_cause_later error.Memory a b c none h = h ∙ none
 
-pub open_cause_after : {U : Type 0} (a b c : Taped) (e : OpenError) (r : Result U OpenError) → IsErrAnd r (λ x. x ≡ e) → Grown a b → IsCause b c (cause_of_open e) → HasCause cause_of_open a c r
-open_cause_after a b c e r is grown h = open_cause a c e r is (open_cause_later e a b c grown h)
+pub open_cause_after : {U : Type 0} (a b c : Taped) (e : OpenError) (r : Result U OpenError) → IsErrAnd r (λ x. x ≡ e) → Unfailed a b → IsCause b c (cause_of_open e) → HasCause cause_of_open a c r
+open_cause_after a b c e r is none h = open_cause a c e r is (open_cause_later e a b c none h)
 
 pub cause_of_entering : (a b : Taped) (e : OpenError) → IsCause a b (cause_of_opening e) → IsCause a b (cause_of_open e)
-cause_of_entering a b (error.NoRoot found) h = tt
-cause_of_entering a b error.NoDescriptor h = tt
-cause_of_entering a b (error.Misled place at wanted found) h = tt
-cause_of_entering a b (error.WrongLength size) h = tt
-cause_of_entering a b (error.BadDescriptor w found) h = tt
-cause_of_entering a b (error.NotClean mark) h = tt
+cause_of_entering a b (error.NoRoot found) h = absurd h
+cause_of_entering a b error.NoDescriptor h = absurd h
+cause_of_entering a b (error.Misled place at wanted found) h = h
+cause_of_entering a b (error.WrongLength size) h = h
+cause_of_entering a b (error.BadDescriptor w found) h = h
+cause_of_entering a b (error.NotClean mark) h = h
 cause_of_entering a b error.DiskFault h = h
-cause_of_entering a b error.Memory h = tt
+cause_of_entering a b error.Memory h = h
 
 -- of a call that ends with entering
-pub cause_in_entering : {T : Type 0} (a b c : Taped) (r : Result T OpenError) → Grown a b → HasCause cause_of_opening b c r → HasCause cause_of_open a c r
-cause_in_entering a b c (Ok x) grown h = tt
-cause_in_entering a b c (Err e) grown h = open_cause_later e a b c grown (cause_of_entering b c e h)
+pub cause_in_entering : {T : Type 0} (a b c : Taped) (r : Result T OpenError) → Unfailed a b → HasCause cause_of_opening b c r → HasCause cause_of_open a c r
+cause_in_entering a b c (Ok x) none h = h ∙ none
+cause_in_entering a b c (Err e) none h = open_cause_later e a b c none (cause_of_entering b c e h)
 
 -- what Ok gives says more
 pub if_ok_more : {T : Type 0} (P Q : T → Type 0) (r : Result T OpenError) → ((x : T) → P x → Q x) → IfOk r P → IfOk r Q

@@ -15,7 +15,9 @@ use Rattle.laws_hint.specs.MapMeanings.{HasEachSector}
 use Rattle.directory.specs.laws_lookup.proofs.hints.Laws.{true_hints_never_mislead}
 use Rattle.laws_session.proofs.begins.Laws.{fresh_memory_is_kept, sessions_begin, sound_packs_are_ready}
 use Rattle.laws_session.proofs.ends.Laws.{sound_packs_begin}
-use Rattle.laws_session.proofs.zones.Laws.{fresh_worlds_have_a_memory, zones_read_back}
+use Rattle.laws_session.proofs.zones.Laws.{fresh_worlds_have_a_memory}
+use Rattle.laws_session.specs.laws_zone.proofs.levels.Laws.{bases_are_within}
+use Rattle.laws_session.specs.laws_zone.proofs.memories.Laws.{zones_read_back}
 use Rattle.laws_session.specs.BeginLaws.{KeepsFresh}
 use Rattle.pack_model.specs.hints.Truth.{Truthful}
 use Rattle.pack_model.specs.states.Sound.{Sound, mark_clean, mark_of}
@@ -27,7 +29,7 @@ use Rattle.session_model.specs.Opening.{Begun, Renewed, Unready, goes_on, not_cl
 use Rattle.session_model.specs.Streams.{Stream}
 use Rattle.session_model.specs.Turning.{State}
 use Rattle.session_model.specs.Worlds.{fresh_world, memory_words, mended_world}
-use Rattle.laws_steps.specs.world_model.specs.Levels.{IsAtLevel, all_levels}
+use Rattle.laws_steps.specs.world_model.specs.Levels.{IsAtLevel, all_levels, level_base}
 use Rattle.exec_session.specs.Meant.{kept}
 use Rattle.exec_session.specs.Opens.{IsFresh, Mended, Refuses, RenewsNot}
 use Rattle.exec_session.specs.declared.session.Session.{Session}
@@ -37,7 +39,8 @@ memory_at_level : (words : List ℕ) → words ≡ memory_words (fresh_world 0) 
 memory_at_level words is =
     let w = fresh_world 0 in
     let has = fresh_worlds_have_a_memory 0 in
-    subst (IsAtLevel all_levels) (sym is) ((zones_read_back w w.zone has.user has.fills).memory_is has.least has.most)
+    subst (IsAtLevel all_levels) (sym is)
+    (record { least = has.least; most = has.most; memory_is = (zones_read_back (level_base w.level) w.user w.zone (bases_are_within w.level) has.user has.fills).memory_is })
 
 -- ---- what is fresh
 -- made of what opening answered, with a fresh memory
@@ -59,8 +62,8 @@ module _ (moment limit : ℕ) (s : Session) (made : IsMade moment limit s) where
   keeps : KeepsFresh (kept s) moment
   keeps = record { moment = made.moment_is; level = made.level; memory = made.memory; streams = refl; need = made.need }
 
-  pub is_fresh : IsFresh moment limit (kept s)
-  is_fresh = record { world = fresh_memory_is_kept (kept s) moment keeps; tally = made.limit_is }
+  pub is_fresh : s.descriptor.mark ≡ mark_clean → IsFresh moment limit (kept s)
+  is_fresh clean = record { world = fresh_memory_is_kept (kept s) moment keeps; tally = made.limit_is; clean = clean }
 
   pub is_formed : (form : Shape) → s.descriptor.shape ≡ form → length s.hints.table ≡ pages_of form → Formed form (kept s)
   is_formed form shape bits = record {

@@ -25,6 +25,7 @@ use Rattle.directory.specs.declared.errors.DirError.TheVariants.{NoSuchName, Nam
 use Rattle.pack_model.specs.hints.Misled.{AnswersMisled}
 use Rattle.pack_model.specs.operations.Step.{Operation}
 use Rattle.session_model.specs.Refusals.{most_serials}
+use Rattle.exec_session.proofs.Causing.{IsRefusal, cause_of_refusal}
 use Rattle.exec_session.specs.Meant.{IfHint, IfRefused}
 use Rattle.exec_session.specs.Stops.{cause_of_stop, stop_entered, stop_of_desc, stop_writing, stop_written}
 use Rattle.exec_session.specs.declared.stop.Stop.{Stop}
@@ -125,11 +126,11 @@ written_unrefused file (Err fault.DiskFault) = tt
 written_unrefused file (Err fault.Memory) = tt
 
 pub written_cause : (a b : Taped) (file : FileRef) (result : Result (Unit {0}) FileError) → HasCause cause_of_length a b result → HasCause cause_of_stop a b (stop_written file result)
-written_cause a b file (Ok x) h = tt
-written_cause a b file (Err (fault.Misled place at wanted found)) h = tt
-written_cause a b file (Err (fault.Beyond length)) h = tt
+written_cause a b file (Ok x) h = h
+written_cause a b file (Err (fault.Misled place at wanted found)) h = h
+written_cause a b file (Err (fault.Beyond length)) h = absurd h
 written_cause a b file (Err fault.DiskFault) h = h
-written_cause a b file (Err fault.Memory) h = tt
+written_cause a b file (Err fault.Memory) h = h
 
 pub entered_unrefused : (dir : FileRef) (result : Result (Unit {0}) DirError) → IfRefused (stop_entered dir result) (λ r. ⊥)
 entered_unrefused dir (Ok x) = tt
@@ -138,12 +139,12 @@ entered_unrefused dir (Err NameTaken) = tt
 entered_unrefused dir (Err (NoSlot largest)) = tt
 entered_unrefused dir (Err (File e)) = written_unrefused dir (Err e)
 
-pub entered_cause : (absent taken full : Cause) (a b : Taped) (dir : FileRef) (result : Result (Unit {0}) DirError) → HasCause (cause_of absent taken full) a b result → HasCause cause_of_stop a b (stop_entered dir result)
-entered_cause absent taken full a b dir (Ok x) h = tt
-entered_cause absent taken full a b dir (Err NoSuchName) h = tt
-entered_cause absent taken full a b dir (Err NameTaken) h = tt
-entered_cause absent taken full a b dir (Err (NoSlot largest)) h = tt
-entered_cause absent taken full a b dir (Err (File e)) h = written_cause a b dir (Err e) h
+pub entered_cause : (absent taken full : Cause) → IsRefusal absent → IsRefusal taken → IsRefusal full → (a b : Taped) (dir : FileRef) (result : Result (Unit {0}) DirError) → HasCause (cause_of absent taken full) a b result → HasCause cause_of_stop a b (stop_entered dir result)
+entered_cause absent taken full x y z a b dir (Ok unit) h = h
+entered_cause absent taken full x y z a b dir (Err NoSuchName) h = cause_of_refusal absent a b x h
+entered_cause absent taken full x y z a b dir (Err NameTaken) h = cause_of_refusal taken a b y h
+entered_cause absent taken full x y z a b dir (Err (NoSlot largest)) h = cause_of_refusal full a b z h
+entered_cause absent taken full x y z a b dir (Err (File e)) h = written_cause a b dir (Err e) h
 
 -- ---- what is said of other answers
 pub misled_silent : (X : Type 0) (result : Result (Unit {0}) FileError) → ((IsErrOf result fault.DiskFault → ⊥) → OnErr result X) → refs.IfMisled result (λ place at wanted found. X)

@@ -12,7 +12,7 @@ use Rattle.page_seeking.specs.declared.refs.FileError.{FileError}
 use Rattle.page_seeking.specs.declared.refs.FileError.TheVariants as file
 use Rattle.pack_model.specs.hints.Tables.{HintsTrue}
 use Rattle.pack_model.specs.sessions.Tallies.{no_tally}
-use Rattle.pack_model.specs.states.Sound.{Sound, Clean}
+use Rattle.pack_model.specs.states.Sound.{Sound, Clean, mark_clean}
 use Rattle.session_model.specs.Keeping.{Kept, world_of}
 use Rattle.session_model.specs.Opening.{Begun, Renewed, Unready, no_root, no_descriptor, wrong_length, bad_descriptor, not_clean, unready, system_files, is_root, is_descriptor, descriptor_entry}
 use Rattle.session_model.specs.Turning.{HintFailing}
@@ -54,6 +54,7 @@ Opens p moment limit (Err e) = Refuses p e
 pub record IsFresh (moment limit : ℕ) (k : Kept) : Type 0 where
   pub world : world_of k ≡ fresh_world moment
   pub tally : k.tally ≡ no_tally limit
+  pub clean : k.mark ≡ mark_clean
 
 -- a pack that carries no page twice is entered again if and only if nothing is against it
 abbrev pub OpensAgain : Pack → Result (Unit {0}) OpenError → Type 0

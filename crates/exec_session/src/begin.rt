@@ -1,4 +1,6 @@
 // A session as it begins, and as it goes on after a scavenge.
+ghost use Rattle.alto_words.specs.Fid.{disk_descriptor};
+ghost use Rattle.disk_descriptor.specs.Opening.{HasCleanPage};
 ghost use Rattle.disk_records.specs.Causes.{HasCause};
 ghost use Rattle.disk_records.specs.Tapes.{DiskAlone, added, pack};
 ghost use Rattle.exec_session.specs.Meant.{kept};
@@ -26,7 +28,8 @@ impl Session {
     ///
     /// The first of these that holds: NoRoot, NoDescriptor, WrongLength, BadDescriptor, NotClean. Misled: an address on the way to SysDir's or
     /// DiskDescriptor's words is wrong. DiskFault: the device failed. Memory: none was left for what a session keeps; the words of the memory
-    /// take no room.
+    /// take no room. On a pack that carries a page twice too, a session begins only if a sector that carries DiskDescriptor's page 1 has the
+    /// clean mark and the right words.
     pub fn begin<D: Disk>(
         alloc: Global,
         disk: &mut D,
@@ -34,6 +37,7 @@ impl Session {
         limit: u64,
     ) -> Result<Session, OpenError>
         ensures opens { IsTrue D.told → EachOnce (sights (pack (D.tape disk.old))) → Opens (pack (D.tape disk.old)) moment limit result }
+        ensures clean_page { IsTrue D.told → IfOk result (λ s. HasCleanPage (pack (D.tape disk.old)) disk_descriptor) }
         ensures silent { IsTrue D.told → added (D.tape disk.old) (D.tape disk.new) ≡ [] }
         ensures fresh { IfOk result (λ s. IsFresh moment limit (kept s)) }
         ensures formed { IfOk result (λ s. Formed (D.tape disk.new).form (kept s)) }
@@ -65,6 +69,7 @@ impl Session {
         requires formed { Formed (D.tape disk.old).form (kept self.old) }
         ensures opens { IsTrue D.told → EachOnce (sights (pack (D.tape disk.old))) → OpensAgain (pack (D.tape disk.old)) result }
         ensures renews { IsTrue D.told → Mended (pack (D.tape disk.old)) → Renews (pack (D.tape disk.old)) (kept self.old) (kept self.new) result }
+        ensures clean_page { IsTrue D.told → OnOk result (HasCleanPage (pack (D.tape disk.old)) disk_descriptor) }
         ensures silent { IsTrue D.told → added (D.tape disk.old) (D.tape disk.new) ≡ [] }
         ensures goes_on { OnOk result (GoesOn (kept self.old) (kept self.new)) }
         ensures left { OnErr result (self.new ≡ self.old) }

@@ -8,6 +8,7 @@ ghost use Rattle.exec_session.specs.Stops.{cause_of_stop};
 ghost use Rattle.exec_session.specs.Ends.{IsEndAnswer, cause_of_reply};
 ghost use Rattle.session_model.specs.Answering.{IsByModel, TakesTurns};
 ghost use Rattle.session_model.specs.Keeping.{Formed};
+ghost use Rattle.pack_model.specs.states.Sound.{mark_clean};
 ghost use Rattle.session_model.specs.Turning.{ended, typed};
 ghost use Rattle.std.specs.Prelude.{IsTrue, OnErr, OnOk, false, length, true, ◌*◌, ◌≡◌, ◌≢◌};
 ghost use Rattle.exec_words.specs.declared.line.Line.TheVariants as line;
@@ -24,6 +25,7 @@ use std::alloc::Global;
 fn close<D: Disk>(session: &mut Session, disk: &mut D) -> Result<(), Stop>
     requires formed { Formed (D.tape disk.old).form (kept session.old) }
     ensures in_need { (kept session.old).need ≡ true → OnErr result ⊥ × ((D.tape disk.new) ≡ (D.tape disk.old)) × (session.new ≡ session.old) }
+    ensures quiet { (kept session.old).mark ≡ mark_clean → (D.tape disk.new) ≡ (D.tape disk.old) }
     ensures closes { IsTrue D.told → Fits (pack (D.tape disk.old)) session.old.descriptor → (kept session.old).need ≡ false → Writes Stop.Memory (closes (pack (D.tape disk.old)) session.old.hints.table session.old.descriptor) (2 * length session.old.descriptor.pages) (D.tape disk.old) (D.tape disk.new) result }
     ensures unfailing { IsTrue D.told → Fits (pack (D.tape disk.old)) session.old.descriptor → IfHint result (λ place at wanted found. ⊥) }
     ensures unrefused { IfRefused result (λ r. ⊥) }
@@ -41,7 +43,7 @@ fn close<D: Disk>(session: &mut Session, disk: &mut D) -> Result<(), Stop>
 
 impl Session {
     /// Ends the session: closes the pack, at most two sector commands and one record write for each data page of DiskDescriptor. In need of a
-    /// scavenge nothing is done. The reply is done without text if the pack is closed or nothing was to be done.
+    /// scavenge, and where the mark is clean, nothing is done. The reply is done without text if the pack is closed or nothing was to be done.
     ///
     /// DiskFault: the device failed, and a prefix of the record writes is made, perhaps all. Memory: none was left for a record write. On a
     /// disk that isn't modelled HintFailed may come too, of a sector that is kept.
@@ -50,6 +52,7 @@ impl Session {
         ensures turns { IsTrue D.told → TakesTurns (D.tape disk.old) (D.tape disk.new) (kept self.old) (kept self.new) ended result }
         ensures answers { IsEndAnswer result }
         ensures idle { (kept self.old).need ≡ true → (D.tape disk.new) ≡ (D.tape disk.old) }
+        ensures quiet { (kept self.old).mark ≡ mark_clean → (D.tape disk.new) ≡ (D.tape disk.old) }
         ensures limit { (kept self.new).tally.limit ≡ (kept self.old).tally.limit }
         ensures formed { Formed (D.tape disk.new).form (kept self.new) }
         ensures cause { IsCause (D.tape disk.old) (D.tape disk.new) (cause_of_reply result) }

@@ -6,7 +6,7 @@
 //! sweep of all labels, and the laws of calls. A line finds its operands, refuses in order, and reserves all of its sectors at once, by the
 //! calls of this crate, before it writes. One that writes opens the mark then, and takes its steps: pages of directories, a new file with
 //! its entry, bytes after those of a file, its written date. To the layers above, on every machine:
-//! 1. What keeps a line from being done is a `Stop`: a refusal, a hint that misled, a disk fault, which comes only where its count rose
+//! 1. What keeps a line from being done is a `Stop`: a refusal, a hint that misled, a disk fault, which is answered if and only if one came
 //!    (`cause`), or out of memory. A call that wrote is answered by no refusal (`written`, `entered`).
 //! 2. A call that finds or plans only looks: of what a session keeps the cache of addresses alone may be another (`looks`).
 //! 3. A session begins with a fresh world and nothing counted (`fresh`). After a scavenge it goes on with its world and its tally, and

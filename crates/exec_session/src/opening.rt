@@ -1,11 +1,13 @@
 // Opening a pack: SysDir at its fixed address, DiskDescriptor by its name, and what DiskDescriptor says.
-ghost use Rattle.disk_descriptor.specs.Opening.{IsOpened};
+ghost use Rattle.alto_words.specs.Fid.{disk_descriptor};
+ghost use Rattle.disk_descriptor.specs.Opening.{HasCleanPage, IsOpened};
 ghost use Rattle.disk_records.specs.Addresses.{pages_of};
 ghost use Rattle.disk_records.specs.Causes.{HasCause};
 ghost use Rattle.disk_records.specs.Tapes.{Looks, pack};
 ghost use Rattle.exec_session.specs.Opens.{Refuses, cause_of_open};
 ghost use Rattle.pack_model.specs.reading.Sights.{sights};
 ghost use Rattle.pack_model.specs.states.Sentences.{EachOnce};
+ghost use Rattle.pack_model.specs.states.Sound.{mark_clean};
 ghost use Rattle.session_model.specs.Opening.{unready};
 ghost use Rattle.std.specs.Prelude.{IfErr, IfOk, IsTrue, None, [], length, ◌*◌, ◌≡◌};
 
@@ -39,6 +41,8 @@ fn enter_found<D: Disk>(disk: &mut D, hints: &mut Hints) -> Result<Descriptor, O
     requires sized { length hints.old.table ≡ pages_of (D.tape disk.old).form }
     ensures opened { IsTrue D.told → EachOnce (sights (pack (D.tape disk.old))) → IfOk result (λ d. (unready (pack (D.tape disk.old)) ≡ None) × IsOpened (pack (D.tape disk.old)) d hints.new.table) }
     ensures refused { IsTrue D.told → EachOnce (sights (pack (D.tape disk.old))) → IfErr result (Refuses (pack (D.tape disk.old))) }
+    ensures clean { IfOk result (λ d. d.mark ≡ mark_clean) }
+    ensures clean_page { IsTrue D.told → IfOk result (λ d. HasCleanPage (pack (D.tape disk.old)) disk_descriptor) }
     ensures shape { IfOk result (λ d. d.shape ≡ (D.tape disk.old).form) }
     ensures sized { length hints.new.table ≡ length hints.old.table }
     ensures cause { HasCause cause_of_open (D.tape disk.old) (D.tape disk.new) result }
@@ -54,6 +58,8 @@ fn enter_found<D: Disk>(disk: &mut D, hints: &mut Hints) -> Result<Descriptor, O
 pub(crate) fn open_pack<D: Disk>(alloc: Global, disk: &mut D) -> Result<Opened, OpenError>
     ensures opened { IsTrue D.told → EachOnce (sights (pack (D.tape disk.old))) → IfOk result (λ o. (unready (pack (D.tape disk.old)) ≡ None) × IsOpened (pack (D.tape disk.old)) o.descriptor o.hints.table) }
     ensures refused { IsTrue D.told → EachOnce (sights (pack (D.tape disk.old))) → IfErr result (Refuses (pack (D.tape disk.old))) }
+    ensures clean { IfOk result (λ o. o.descriptor.mark ≡ mark_clean) }
+    ensures clean_page { IsTrue D.told → IfOk result (λ d. HasCleanPage (pack (D.tape disk.old)) disk_descriptor) }
     ensures formed { IfOk result (λ o. (o.descriptor.shape ≡ (D.tape disk.old).form) × (length o.hints.table ≡ pages_of (D.tape disk.old).form)) }
     ensures cause { HasCause cause_of_open (D.tape disk.old) (D.tape disk.new) result }
     ensures looks { Looks D.told (65588 * 131072) (D.tape disk.old) (D.tape disk.new) }

@@ -1,4 +1,5 @@
 // SysDir at its fixed address, and DiskDescriptor by its name in it.
+ghost use Rattle.alto_words.specs.Fid.{disk_descriptor};
 ghost use Rattle.directory.specs.Asked.{DirIsFound};
 ghost use Rattle.disk_descriptor.specs.Opening.{MayBeOpened};
 ghost use Rattle.disk_records.specs.Causes.{HasCause};
@@ -69,6 +70,7 @@ pub(crate) fn find_descriptor<D: Disk>(
     hints: &mut Hints,
     buf: &mut Sector,
 ) -> Result<FileRef, OpenError>
+    ensures fid { IfOk result (λ file. file.fid ≡ disk_descriptor) }
     ensures found { IsTrue D.told → DirIsFound (pack (D.tape disk.old)) root_ref → IfOk result (MayBeOpened (pack (D.tape disk.old))) }
     ensures is { IsTrue D.told → DirIsFound (pack (D.tape disk.old)) root_ref → OnOk result (is_descriptor (descriptor_entry (pack (D.tape disk.old))) ≡ true) }
     ensures refused { IsTrue D.told → DirIsFound (pack (D.tape disk.old)) root_ref → is_root (carried (pack (D.tape disk.old)) 1) ≡ true → IfErr result (DescriptorRefused (pack (D.tape disk.old))) }

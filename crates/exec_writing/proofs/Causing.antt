@@ -25,16 +25,16 @@ refuses_none P (Err stop.Memory) h = tt
 
 -- the cause of an error of a call that puts bytes
 pub put_cause : (a b : Taped) (file : FileRef) (result : Result (Unit {0}) FileError) → HasCause cause_of_file a b result → HasCause cause_of_stop a b (stop_written file result)
-put_cause a b file (Ok x) h = tt
-put_cause a b file (Err (fault.Misled place at wanted found)) h = tt
-put_cause a b file (Err (fault.Beyond length)) h = tt
+put_cause a b file (Ok x) h = h
+put_cause a b file (Err (fault.Misled place at wanted found)) h = h
+put_cause a b file (Err (fault.Beyond length)) h = h
 put_cause a b file (Err fault.DiskFault) h = h
-put_cause a b file (Err fault.Memory) h = tt
+put_cause a b file (Err fault.Memory) h = h
 
 -- and of one that lists slots
 pub list_cause : (a b : Taped) (e : ListError) → IsCause a b (cause_of_list e) → IsCause a b (cause_of_stop (stop_of_list e))
-list_cause a b (listing.File (fault.Misled place at wanted found)) h = tt
-list_cause a b (listing.File (fault.Beyond length)) h = tt
+list_cause a b (listing.File (fault.Misled place at wanted found)) h = h
+list_cause a b (listing.File (fault.Beyond length)) h = absurd h
 list_cause a b (listing.File fault.DiskFault) h = h
-list_cause a b (listing.File fault.Memory) h = tt
-list_cause a b listing.Memory h = tt
+list_cause a b (listing.File fault.Memory) h = absurd h
+list_cause a b listing.Memory h = h

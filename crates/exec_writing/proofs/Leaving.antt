@@ -89,7 +89,7 @@ module _ (p : Pack) (found : Found) (may : MayLeave p found) where
 
 -- ---- answers of a leaving
 pub leaving_cause : (a b : Taped) (result : Result (Unit {0}) DirError) → HasCause (cause_of other never never) a b result → (result ≡ Err NoSuchName → ⊥) → HasCause (cause_of never other other) a b result
-leaving_cause a b (Ok x) cause is_there = tt
+leaving_cause a b (Ok x) cause is_there = cause
 leaving_cause a b (Err NoSuchName) cause is_there = absurd (is_there refl)
 leaving_cause a b (Err NameTaken) cause is_there = absurd cause
 leaving_cause a b (Err (NoSlot largest)) cause is_there = absurd cause

@@ -6,8 +6,8 @@
 //! writes, takes all of its sectors at once, opens the mark, does its operations in their order, and answers the text of its line, or why
 //! the line isn't done. A copy is a new file with its entry, then its bytes and its date; a rename writes the name in the leader, then the
 //! old entry goes, and then the new one comes. To the layers above, on every machine:
-//! 1. A disk fault comes only where its count rose (`cause`); the disk is lent alone (`alone`); the session keeps its world, and stays well
-//!    formed (`stays`).
+//! 1. A disk fault is answered if and only if one came (`cause`); the disk is lent alone (`alone`); the session keeps its world, and stays
+//!    well formed (`stays`).
 //!
 //! And where the machine is modelled:
 //! 2. A line that is refused writes nothing (`unwritten`).

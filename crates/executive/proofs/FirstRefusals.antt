@@ -2,7 +2,7 @@
 use Rattle.std.proofs.Common.{◌≡◌, ◌≢◌, ◌<◌, ◌≤◌, ◌&&◌, Bool, true, false, cond, not, nat_lt, List, [], ◌∷◌, ◌++◌, Option, Some, None, Result, Ok, Err, refl, sym, subst, ap, ◌∙◌}
 use Rattle.std.proofs.lemmas.Bool.{le-ltb, lt-ltb}
 use Rattle.disk_records.proofs.Growing.{alone_here, nothing_added}
-use Rattle.disk_records.specs.Causes.{IsCause}
+use Rattle.disk_records.specs.Causes.{IsCause, Unfailed}
 use Rattle.disk_records.specs.Tapes.{Taped}
 use Rattle.exec_words.specs.Built.{as_built, is_built}
 use Rattle.exec_words.specs.Typed.{is_typed}
@@ -74,11 +74,11 @@ stop_turns t one two l x (Some f) r is e reply_is stays =
     subst (λ y. TakesTurns t t (kept one) (kept two) (typed l) y) (sym (reply_is ∙ ap stopped x_is))
     (subst (λ k. TakesTurns t t (kept one) k (typed l) (reply.Refused f)) (sym (stays ∙ ap (λ y. kept_stopped y (kept one)) x_is)) (refused_turns t one l f is))
 
-pub stop_cause : (a b : Taped) (x : Stop) (rs : Option Refusal) (r : Reply) → ◌≡◌ {A = Result (Unit {0}) Stop} (Err x) (refused_for rs) → r ≡ stopped x → IsCause a b (cause_of_reply r)
-stop_cause a b x None r e reply_is = absurd (let n : ◌≡◌ {A = Result (Unit {0}) Stop} (Err x) (Ok tt) = e in cc)
-stop_cause a b x (Some f) r e reply_is =
+pub stop_cause : (a b : Taped) (x : Stop) (rs : Option Refusal) (r : Reply) → ◌≡◌ {A = Result (Unit {0}) Stop} (Err x) (refused_for rs) → r ≡ stopped x → Unfailed a b → IsCause a b (cause_of_reply r)
+stop_cause a b x None r e reply_is none = absurd (let n : ◌≡◌ {A = Result (Unit {0}) Stop} (Err x) (Ok tt) = e in cc)
+stop_cause a b x (Some f) r e reply_is none =
     let x_is : x ≡ stop.Refused f = let n : ◌≡◌ {A = Result (Unit {0}) Stop} (Err x) (Err (stop.Refused f)) = e in cc in
-    subst (λ y. IsCause a b (cause_of_reply y)) (sym (reply_is ∙ ap stopped x_is)) tt
+    subst (λ y. IsCause a b (cause_of_reply y)) (sym (reply_is ∙ ap stopped x_is)) none
 
 none_refused : (x : Unit {0}) (rs : Option Refusal) → ◌≡◌ {A = Result (Unit {0}) Stop} (Ok x) (refused_for rs) → rs ≡ None
 none_refused x None e = refl

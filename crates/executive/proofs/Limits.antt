@@ -128,8 +128,8 @@ pub answered_cause : {Z : Type 0} (old new : Taped) (done : Result (Vec ℕ Z) S
 answered_cause {Z} old new done r is h = subst (λ x. IsCause old new (cause_of_reply x)) (sym is) (by done h)
   where
     by : (done : Result (Vec ℕ Z) Stop) → HasCause cause_of_stop old new done → IsCause old new (cause_of_reply (replied done))
-    by (Ok text) h = tt
-    by (Err (stop.Refused x)) h = tt
-    by (Err (stop.Misled place at wanted found)) h = tt
+    by (Ok text) h = h
+    by (Err (stop.Refused x)) h = h
+    by (Err (stop.Misled place at wanted found)) h = h
     by (Err stop.DiskFault) h = h
-    by (Err stop.Memory) h = tt
+    by (Err stop.Memory) h = h

@@ -135,5 +135,5 @@ time_formed form one two moment (Ok text) formed set left = subst (λ x. Formed 
 time_formed form one two moment (Err e) formed set left = subst (λ x. Formed form (kept x)) (sym left) formed
 
 pub time_cause : {Z : Type 0} (t : Taped) (result : Result (Vec ℕ Z) Stop) → IfErr result (λ e. e ≡ stop.Memory) → HasCause cause_of_stop t t result
-time_cause t (Ok text) memory = tt
-time_cause {Z} t (Err e) memory = subst (λ x. HasCause {T = Vec ℕ Z} cause_of_stop t t (Err x)) (sym memory) tt
+time_cause t (Ok text) memory = refl
+time_cause {Z} t (Err e) memory = subst (λ x. HasCause {T = Vec ℕ Z} cause_of_stop t t (Err x)) (sym memory) refl

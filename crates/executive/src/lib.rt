@@ -4,8 +4,8 @@
 //! Come here to obey a line in a session. Below it stand the lines that write (exec_writing), what lines share (exec_session), the calls that
 //! read directories, leaders and bytes, and the grammar and the texts of lines (exec_words). A session begins and ends by exec_session's
 //! calls. To the layers above, on every machine:
-//! 1. The session stays well formed (`formed`), its tally counts up to the limit that it was given (`limit`), a disk fault comes only where
-//!    its count rose (`cause`), and the disk is lent alone (`alone`).
+//! 1. The session stays well formed (`formed`), its tally counts up to the limit that it was given (`limit`), a disk fault is answered if
+//!    and only if one came (`cause`), and the disk is lent alone (`alone`).
 //!
 //! And where the machine is modelled:
 //! 2. A line that the model refuses, and not a hint, writes nothing (`unwritten`); nor, by `turns`, does a line that only reads.

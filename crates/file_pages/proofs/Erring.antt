@@ -1,7 +1,7 @@
 -- The errors of guarded commands as those of calls.
-use Rattle.std.proofs.Common.{Err, IsErrOf, List, Option, ap, arith, inl, inr, refl, sym, ℕ, ◌∙◌, ◌≡◌, ◌≤◌}
+use Rattle.std.proofs.Common.{Err, IsErrOf, List, Option, ap, arith, inl, inr, refl, sym, ℕ, ◌∙◌, ◌≡◌}
 use Rattle.alto_words.specs.declared.fid.Fid.{Fid}
-use Rattle.disk_records.specs.Causes.{IsCause}
+use Rattle.disk_records.specs.Causes.{IsCause, Unfailed}
 use Rattle.disk_records.specs.Packs.{Pack}
 use Rattle.disk_records.specs.Tapes.{Taped, pack}
 use Rattle.disk_records.specs.declared.records.Page.{Page}
@@ -35,16 +35,16 @@ never_misled holds at a b guard.DiskFault place held wanted e same wrong held_th
 never_misled holds at a b guard.Memory place held wanted e same wrong held_then = rw same tt
 
 -- an error of a later call has its cause in the whole
-pub caused_later : (a b c : Taped) (error : GuardError) (place : Place) (held : ℕ) (wanted : Page) (e : FileError) → e ≡ error_at place held wanted error → a.disk_faults ≤ b.disk_faults → IsCause b c (cause_of_guard error) → IsCause a c (cause_of_length e)
-caused_later a b c (guard.Wrong found) place held wanted e same less cause = rw same tt
-caused_later a b c guard.DiskFault place held wanted e same less cause = rw same (omega (arith, less, cause))
-caused_later a b c guard.Memory place held wanted e same less cause = rw same tt
+pub caused_later : (a b c : Taped) (error : GuardError) (place : Place) (held : ℕ) (wanted : Page) (e : FileError) → e ≡ error_at place held wanted error → Unfailed a b → IsCause b c (cause_of_guard error) → IsCause a c (cause_of_length e)
+caused_later a b c (guard.Wrong found) place held wanted e same none cause = rw same (cause ∙ none)
+caused_later a b c guard.DiskFault place held wanted e same none cause = rw same (omega (arith, none, cause))
+caused_later a b c guard.Memory place held wanted e same none cause = rw same (cause ∙ none)
 
-pub cause_after : (a b c : Taped) (e : FileError) → a.disk_faults ≤ b.disk_faults → IsCause b c (cause_of_length e) → IsCause a c (cause_of_length e)
-cause_after a b c (file.Misled place at wanted found) less cause = tt
-cause_after a b c (file.Beyond length) less cause = cause
-cause_after a b c file.DiskFault less cause = omega (arith, less, cause)
-cause_after a b c file.Memory less cause = tt
+pub cause_after : (a b c : Taped) (e : FileError) → Unfailed a b → IsCause b c (cause_of_length e) → IsCause a c (cause_of_length e)
+cause_after a b c (file.Misled place at wanted found) none cause = cause ∙ none
+cause_after a b c (file.Beyond length) none cause = cause
+cause_after a b c file.DiskFault none cause = omega (arith, none, cause)
+cause_after a b c file.Memory none cause = cause ∙ none
 
 -- what never misleads misleads in no way
 pub none_misled : (P : Place → ℕ → Page → Option (List ℕ) → Type 0) (e : FileError) → IfMisled {T = Unit {0}} (Err e) (λ place at wanted found. ⊥) → IfMisled {T = Unit {0}} (Err e) P
@@ -69,10 +69,10 @@ memory_too T file.Memory is = refl
 
 -- an answer that is never Beyond
 pub never_past : (T : Type 0) (a b : Taped) (e : FileError) → IsCause a b (cause_of_file e) → IfBeyond {T = T} (Err e) (λ length. ⊥) → IsCause a b (cause_of_length e)
-never_past T a b (file.Misled place at wanted found) cause never = tt
+never_past T a b (file.Misled place at wanted found) cause never = cause
 never_past T a b (file.Beyond length) cause never = absurd never
 never_past T a b file.DiskFault cause never = cause
-never_past T a b file.Memory cause never = tt
+never_past T a b file.Memory cause never = cause
 
 -- the place, the address and the page of a guarded command that misled
 pub wrong_at : (T : Type 0) (P : Place → ℕ → Page → Option (List ℕ) → Type 0) (error : GuardError) (place : Place) (at : ℕ) (wanted : Page) (e : FileError) → e ≡ error_at place at wanted error → ((found : Option (List ℕ)) → P place at wanted found) → IfMisled {T = T} (Err e) P

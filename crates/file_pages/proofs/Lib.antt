@@ -8,7 +8,9 @@ mod Erring
 mod FileEnds
 mod Following
 mod Forgetting
+mod Framed
 mod FreeSectors
+mod Freed
 mod FreshWords
 mod Going
 mod Gone

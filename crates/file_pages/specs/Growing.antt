@@ -6,9 +6,11 @@ use Rattle.alto_words.specs.declared.fid.Fid.{Fid}
 use Rattle.disk_records.specs.Addresses.{pages_of, real_of}
 use Rattle.disk_records.specs.Commands.{claim_writes}
 use Rattle.disk_records.specs.Events.{IsFirstOf}
+use Rattle.disk_records.specs.Frames.{IsFreeSector}
 use Rattle.disk_records.specs.Labels.{label_of}
-use Rattle.disk_records.specs.Packs.{Pack, is_free_at, sector_at}
+use Rattle.disk_records.specs.Packs.{Pack, carried, is_free_at, sector_at}
 use Rattle.disk_records.specs.Tapes.{Taped, added, pack}
+use Rattle.disk_records.specs.Words.{word}
 use Rattle.disk_records.specs.declared.records.Event.{Event}
 use Rattle.disk_records.specs.declared.records.Page.{Page}
 use Rattle.disk_records.specs.declared.records.Place.{Place}
@@ -143,6 +145,21 @@ counted_second writes n t = cond (nat_le 2 n) (took_effect (writes + 2) t) t
 pub record Commits (at : ℕ) (label value : List ℕ) (old new : Taped) (before now : Tally) (result : Result (Unit {0}) FileError) : Type 0 where
   pub makes : Makes (claim_writes at label value) 4 old new result
   pub counts : Tells DiskFault new result → now ≡ counted_second old.writes (length (added old new)) before
+
+-- ---- where it writes
+-- The sector carries a page of the file that ends one: a data page that isn't full, or whose number is the greatest.
+pub record IsEndOf (f : Fid) (p : Pack) (at : ℕ) : Type 0 where
+  pub number : ℕ
+  pub carries : carried p at ≡ Some (page_number f number)
+  pub ends : EndsAtPage number (word (sector_at p at).label 3)
+
+-- it carries such a page, or is free
+abbrev pub IsEndOrFree : Fid → Pack → ℕ → Type 0
+IsEndOrFree f p at = IsEndOf f p at ⊎ IsFreeSector p at
+
+-- it is this one, or is free
+abbrev pub IsHereOrFree : ℕ → Pack → ℕ → Type 0
+IsHereOrFree here p at = (at ≡ here) ⊎ IsFreeSector p at
 
 -- ---- hints of the pages that came
 -- a note for this page at this sector, which is passed over if it is refused

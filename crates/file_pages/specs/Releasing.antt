@@ -1,15 +1,17 @@
 -- Pages of a file that go one after another. The pack as a call began is p, and q is the one that its record writes have left of it so far.
-use Rattle.std.specs.Prelude.{None, Bool, IsErrOf, List, OnOk, Option, Result, Some, false, length, set, suc, take, ℕ, ◌++◌, ◌+◌, ◌<◌, ◌≤◌, ◌∷◌, ◌≡◌, ◌≢◌}
+use Rattle.std.specs.Prelude.{None, Bool, IsErrOf, List, OnOk, Option, Result, Some, false, length, set, suc, take, ℕ, ◌++◌, ◌+◌, ◌<◌, ◌≤◌, ◌∷◌, ◌≡◌, ◌≢◌, ◌⊎◌}
 use Rattle.alto_words.specs.declared.fid.Fid.{Fid}
 use Rattle.disk_records.specs.Addresses.{pages_of}
 use Rattle.disk_records.specs.Commands.{release_writes}
 use Rattle.disk_records.specs.Events.{IsFirstOf}
+use Rattle.disk_records.specs.Frames.{IsFreeSector}
 use Rattle.disk_records.specs.Packs.{Pack, carried, sector_at}
 use Rattle.disk_records.specs.Tapes.{Taped, added, pack}
 use Rattle.disk_records.specs.declared.records.Event.{Event}
 use Rattle.disk_records.specs.declared.records.Page.{Page}
 use Rattle.disk_records.specs.declared.records.Place.{Place}
 use Rattle.disk_records.specs.declared.records.Tally.{Tally}
+use Rattle.hint_cache.specs.Bits.{busy_at}
 use Rattle.hint_cache.specs.Caches.{Cached, address_in}
 use Rattle.label_check.specs.Guarded.{info_of}
 use Rattle.label_check.specs.declared.errors.PageInfo.{PageInfo}
@@ -85,6 +87,15 @@ pub record Halfway (p : Pack) (f : Fid) (number : ℕ) (pages : List ℕ) (old n
   pub wrote : added old now ≡ releases_writes done
   pub table : bits_now ≡ marked false done bits
   pub left : AreAfter p f number rest
+
+-- ---- the table
+-- the bit is as it was, or free as its sector is
+abbrev pub KeepsOrFreesAt : Pack → List Bool → List Bool → ℕ → Type 0
+KeepsOrFreesAt p old new at = (busy_at new at ≡ busy_at old at) ⊎ ((busy_at new at ≡ false) × IsFreeSector p at)
+
+-- so is each
+abbrev pub KeepsOrFrees : Pack → List Bool → List Bool → Type 0
+KeepsOrFrees p old new = (at : ℕ) → KeepsOrFreesAt p old new at
 
 -- ---- the record that commits
 -- Two record writes, of which the first commits an operation: for every answer a prefix of them was done and counted, at Ok both.

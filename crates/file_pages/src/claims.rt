@@ -4,7 +4,8 @@ ghost use Rattle.alto_words.specs.Fid.{is_full_name};
 ghost use Rattle.disk_records.specs.Addresses.{pages_of};
 ghost use Rattle.disk_records.specs.Causes.{HasCause};
 ghost use Rattle.disk_records.specs.Commands.{claim_writes, value_writes};
-ghost use Rattle.disk_records.specs.Tapes.{DiskAlone, pack};
+ghost use Rattle.disk_records.specs.Frames.{IsFreeSector, WritesIn};
+ghost use Rattle.disk_records.specs.Tapes.{DiskAlone, added, pack};
 ghost use Rattle.label_check.specs.Causes.{cause_of_guard};
 ghost use Rattle.label_check.specs.Guarded.{Guarded, IsFree};
 ghost use Rattle.page_seeking.specs.Causes.{cause_of_length};
@@ -85,6 +86,8 @@ fn claim_page<D: Disk>(
     requires sector { IsSector (D.tape disk.old).form at }
     requires later { All (IsSector (D.tape disk.old).form) later.now }
     ensures guarded { IsTrue D.told → FitsNext bytes.now past.now later.now → Guarded (IsFree at) at (value_writes at (next_claim (D.tape disk.old).form (page_number fid number) previous bytes.now past.now at later.now).value) (claim_writes at (next_claim (D.tape disk.old).form (page_number fid number) previous bytes.now past.now at later.now).label (next_claim (D.tape disk.old).form (page_number fid number) previous bytes.now past.now at later.now).value) 2 (D.tape disk.old) (D.tape disk.new) result }
+    ensures frame { IsTrue D.told → WritesIn (IsFreeSector (pack (D.tape disk.old))) (added (D.tape disk.old) (D.tape disk.new)) }
+    ensures was_free { IsTrue D.told → OnOk result (IsFreeSector (pack (D.tape disk.old)) at) }
     ensures cause { HasCause cause_of_guard (D.tape disk.old) (D.tape disk.new) result }
     ensures alone { DiskAlone (D.tape disk.old) (D.tape disk.new) }
 {
@@ -115,6 +118,8 @@ pub(crate) fn claim_pages<D: Disk>(
     ensures claims { IsTrue D.told → CanClaim (pack (D.tape disk.old)) last bytes.now past.now fresh.now → Makes (claims_writes (claims_of (D.tape disk.old).form fid (suc last) last_at bytes.now past.now fresh.now)) (2 * length fresh.now) (D.tape disk.old) (D.tape disk.new) result }
     ensures misled { IsTrue D.told → CanClaim (pack (D.tape disk.old)) last bytes.now past.now fresh.now → IfMisled result (λ place at wanted found. ⊥) }
     ensures given { IfMisled result (WasGivenToGrow fid fresh.now) }
+    ensures frame { IsTrue D.told → WritesIn (IsFreeSector (pack (D.tape disk.old))) (added (D.tape disk.old) (D.tape disk.new)) }
+    ensures were_free { IsTrue D.told → OnOk result (All (IsFreeSector (pack (D.tape disk.old))) fresh.now) }
     ensures few { OnOk result (last + length fresh.now ≤ 65535) }
     ensures cause { HasCause cause_of_length (D.tape disk.old) (D.tape disk.new) result }
     ensures alone { DiskAlone (D.tape disk.old) (D.tape disk.new) }

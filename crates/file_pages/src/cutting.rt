@@ -2,6 +2,7 @@
 ghost use Rattle.std.specs.Prelude.{◌≡◌, ◌≢◌, ◌<◌, ◌≤◌, ◌/◌, ℕ, List, [], false, Some, IfNone, IfSome, IsErrOf, IsTrue, OnOk, length as list_length};
 ghost use Rattle.disk_records.specs.Addresses.{pages_of};
 ghost use Rattle.disk_records.specs.Causes.{HasCause};
+ghost use Rattle.disk_records.specs.Frames.{IsPageOf, WritesIn};
 ghost use Rattle.disk_records.specs.Commands.{relabel_writes};
 ghost use Rattle.disk_records.specs.Labels.{page_of};
 ghost use Rattle.disk_records.specs.Packs.{Pack, carried, sector_at};
@@ -20,8 +21,8 @@ ghost use Rattle.page_seeking.specs.Refs.{FileStands, IfBeyond, IfMisled, IsOwnH
 ghost use Rattle.page_seeking.specs.Seeking.{file_length, length_at};
 ghost use Rattle.page_seeking.specs.declared.refs.FileError.TheVariants as error;
 ghost use Rattle.file_pages.specs.Calls.{IsHintOrFound, IsLinkOrFound, WasHeld};
-ghost use Rattle.file_pages.specs.Cutting.{IsRead, to_cut};
-ghost use Rattle.file_pages.specs.Releasing.{AreAfter, CommitsAndReleases, CommitsFirst, Forgotten, KeepsEachHandy, ListsNoneGone, MisledSince, OnlyGo};
+ghost use Rattle.file_pages.specs.Cutting.{Cuts, IsRead, to_cut};
+ghost use Rattle.file_pages.specs.Releasing.{AreAfter, CommitsAndReleases, CommitsFirst, Forgotten, KeepsEachHandy, KeepsOrFrees, ListsNoneGone, MisledSince, OnlyGo};
 ghost use Rattle.file_pages.specs.Values.{LeavesHandy};
 
 use crate::refs::error_at;
@@ -80,6 +81,7 @@ fn shorten<D: Disk>(
     ensures commits { IsTrue D.told → carried (pack (D.tape disk.old)) at ≡ Some page → CommitsFirst (relabel_writes at label (sector_at (pack (D.tape disk.old)) at).value) (D.tape disk.old) (D.tape disk.new) tally.old tally.new result }
     ensures misled { IsTrue D.told → carried (pack (D.tape disk.old)) at ≡ Some page → IfMisled result (λ place at wanted found. ⊥) }
     ensures held { IfMisled result (WasHeld at page) }
+    ensures frame { IsTrue D.told → WritesIn (IsPageOf page.fid (pack (D.tape disk.old))) (added (D.tape disk.old) (D.tape disk.new)) }
     ensures cause { HasCause cause_of_length (D.tape disk.old) (D.tape disk.new) result }
     ensures alone { DiskAlone (D.tape disk.old) (D.tape disk.new) }
 {
@@ -114,8 +116,10 @@ fn end_in_page<D: Disk>(
     ensures only { (p : Pack) → IsTrue D.told → pack (D.tape disk.old) ≡ p → IsRead p page at info buf.old → OnOk result (OnlyGo p (pack (D.tape disk.new))) }
     ensures misled { (p : Pack) → IsTrue D.told → pack (D.tape disk.old) ≡ p → IsRead p page at info buf.old → IfMisled result (MisledSince p (pack (D.tape disk.new)) page.fid) }
     ensures given { IfMisled result (IsLinkOrFound page.fid) }
+    ensures frame { IsTrue D.told → WritesIn (IsPageOf page.fid (pack (D.tape disk.old))) (added (D.tape disk.old) (D.tape disk.new)) }
     ensures cause { HasCause cause_of_length (D.tape disk.old) (D.tape disk.new) result }
     ensures alone { DiskAlone (D.tape disk.old) (D.tape disk.new) }
+    ensures bits { IsTrue D.told → KeepsOrFrees (pack (D.tape disk.new)) hints.old.table hints.new.table }
     ensures sized { list_length hints.new.table ≡ list_length hints.old.table }
     ensures refused { hints.new.cache.refused ≡ hints.old.cache.refused }
     ensures handy { KeepsEachHandy hints.old.cache hints.new.cache }
@@ -134,7 +138,8 @@ fn end_in_page<D: Disk>(
 /// has no next link, which commits; then each later page is released, rising, found by the next link of the page before it. Of the page
 /// that becomes the last two record writes, of each later one two. A cut to the file's own length writes nothing. The sectors of later
 /// pages are free in the table then, and the cache has forgotten these pages; after an error it has forgotten those that went. The cache
-/// lists the page in which the file ends then. `buf` is used, and what it holds then is open.
+/// lists the page in which the file ends then. On any pack, and whatever the answer is, each record write is in a page of the file, and each
+/// bit of the table is as it was, or free as its sector is. `buf` is used, and what it holds then is open.
 ///
 /// Beyond: the file is shorter; nothing was written. Misled: the address that the file is named with misleads, or a next link of the file:
 /// then nothing was written, or the file is cut and later pages are left, which a scavenge releases; where the machine isn't modelled also
@@ -150,6 +155,7 @@ pub fn cut<D: Disk>(
 ) -> Result<(), FileError>
     requires sized { list_length hints.old.table ≡ pages_of (D.tape disk.old).form }
     ensures operates { IsTrue D.told → FileStands (pack (D.tape disk.old)) file.now → IsOrdinary file.now.fid → length ≢ file_length (pack (D.tape disk.old)) file.now.fid → Operates error.DiskFault error.Memory (to_cut file.now.fid length) [] (around (D.tape disk.old) hints.old.table tally.old) (around (D.tape disk.new) hints.new.table tally.new) result }
+    ensures cuts { (later : List ℕ) → IsTrue D.told → length ≢ file_length (pack (D.tape disk.old)) file.now.fid → AreAfter (pack (D.tape disk.old)) file.now.fid (page_of_byte length) later → Cuts (pack (D.tape disk.old)) file.now.fid length later (around (D.tape disk.old) hints.old.table tally.old) (around (D.tape disk.new) hints.new.table tally.new) result }
     ensures own_length { IsTrue D.told → FileStands (pack (D.tape disk.old)) file.now → length ≡ file_length (pack (D.tape disk.old)) file.now.fid → IsQuiet (around (D.tape disk.old) hints.old.table tally.old) (around (D.tape disk.new) hints.new.table tally.new) }
     ensures want { IsTrue D.told → FileStands (pack (D.tape disk.old)) file.now → length ≡ file_length (pack (D.tape disk.old)) file.now.fid → IsErrOf result error.Memory → ⊥ }
     ensures within { IsTrue D.told → FileStands (pack (D.tape disk.old)) file.now → OnOk result (length ≤ file_length (pack (D.tape disk.old)) file.now.fid) }
@@ -158,8 +164,10 @@ pub fn cut<D: Disk>(
     ensures hint { IsTrue D.told → IfMisled result (IsOwnHint file.now) }
     ensures given { IfMisled result (IsHintOrFound file.now) }
     ensures true_links { IsTrue D.told → FileStands (pack (D.tape disk.old)) file.now → LinksTrue (pack (D.tape disk.old)) → IfMisled result (λ place at wanted found. ⊥) }
+    ensures frame { IsTrue D.told → WritesIn (IsPageOf file.now.fid (pack (D.tape disk.old))) (added (D.tape disk.old) (D.tape disk.new)) }
     ensures cause { HasCause cause_of_file (D.tape disk.old) (D.tape disk.new) result }
     ensures alone { DiskAlone (D.tape disk.old) (D.tape disk.new) }
+    ensures bits { IsTrue D.told → KeepsOrFrees (pack (D.tape disk.new)) hints.old.table hints.new.table }
     ensures sized { list_length hints.new.table ≡ list_length hints.old.table }
     ensures refused { hints.old.cache.refused ≤ hints.new.cache.refused }
     ensures forgotten { IsTrue D.told → FileStands (pack (D.tape disk.old)) file.now → OnOk result (Forgotten hints.new.cache file.now.fid (page_of_byte length) (page_of_byte (file_length (pack (D.tape disk.old)) file.now.fid))) }

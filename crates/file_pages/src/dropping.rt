@@ -2,6 +2,7 @@
 ghost use Rattle.std.specs.Prelude.{None, ◌≡◌, ◌<◌, ◌/◌, ◌≤◌, ◌∷◌, ℕ, List, Some, false, IsTrue, OnOk, length};
 ghost use Rattle.disk_records.specs.Addresses.{pages_of};
 ghost use Rattle.disk_records.specs.Causes.{HasCause};
+ghost use Rattle.disk_records.specs.Frames.{IsFreeSector, IsPageOf, WritesIn};
 ghost use Rattle.disk_records.specs.Commands.{release_writes};
 ghost use Rattle.disk_records.specs.Packs.{Pack, carried};
 ghost use Rattle.disk_records.specs.Tapes.{DiskAlone, added, pack};
@@ -17,8 +18,8 @@ ghost use Rattle.page_seeking.specs.Seeking.{file_length, page_number};
 ghost use Rattle.page_seeking.specs.declared.refs.FileError.TheVariants as error;
 ghost use Rattle.file_pages.specs.Calls.{IsHintOrFound, IsLinkOrFound, WasHeld};
 ghost use Rattle.file_pages.specs.Cutting.{IsRead};
-ghost use Rattle.file_pages.specs.Dropping.{DropsButSlot, MayBeDropped};
-ghost use Rattle.file_pages.specs.Releasing.{AreAfter, CommitsAndReleases, CommitsFirst, Forgotten, KeepsEachHandy, ListsNoneGone, MisledSince, OnlyGo};
+ghost use Rattle.file_pages.specs.Dropping.{Drops, DropsButSlot, MayBeDropped};
+ghost use Rattle.file_pages.specs.Releasing.{AreAfter, CommitsAndReleases, CommitsFirst, Forgotten, KeepsEachHandy, KeepsOrFrees, ListsNoneGone, MisledSince, OnlyGo};
 ghost use Rattle.file_pages.specs.Values.{LeavesHandy};
 
 use crate::refs::error_at;
@@ -41,8 +42,10 @@ fn release_leader<D: Disk>(
     requires first { 1 ≤ at }
     requires place { at < pages_of (D.tape disk.old).form }
     ensures commits { IsTrue D.told → carried (pack (D.tape disk.old)) at ≡ Some leader → CommitsFirst (release_writes at) (D.tape disk.old) (D.tape disk.new) tally.old tally.new result }
+    ensures is_free { IsTrue D.told → OnOk result (IsFreeSector (pack (D.tape disk.new)) at) }
     ensures misled { IsTrue D.told → carried (pack (D.tape disk.old)) at ≡ Some leader → IfMisled result (λ place at wanted found. ⊥) }
     ensures held { IfMisled result (WasHeld at leader) }
+    ensures frame { IsTrue D.told → WritesIn (IsPageOf leader.fid (pack (D.tape disk.old))) (added (D.tape disk.old) (D.tape disk.new)) }
     ensures cause { HasCause cause_of_length (D.tape disk.old) (D.tape disk.new) result }
     ensures alone { DiskAlone (D.tape disk.old) (D.tape disk.new) }
 {
@@ -74,8 +77,10 @@ fn drop_pages<D: Disk>(
     ensures only { (p : Pack) → IsTrue D.told → pack (D.tape disk.old) ≡ p → IsRead p (page_number fid 0) at info buf.old → OnOk result (OnlyGo p (pack (D.tape disk.new))) }
     ensures misled { (p : Pack) → IsTrue D.told → pack (D.tape disk.old) ≡ p → IsRead p (page_number fid 0) at info buf.old → IfMisled result (MisledSince p (pack (D.tape disk.new)) fid) }
     ensures given { IfMisled result (IsLinkOrFound fid) }
+    ensures frame { IsTrue D.told → WritesIn (IsPageOf fid (pack (D.tape disk.old))) (added (D.tape disk.old) (D.tape disk.new)) }
     ensures cause { HasCause cause_of_length (D.tape disk.old) (D.tape disk.new) result }
     ensures alone { DiskAlone (D.tape disk.old) (D.tape disk.new) }
+    ensures bits { IsTrue D.told → KeepsOrFrees (pack (D.tape disk.new)) hints.old.table hints.new.table }
     ensures sized { length hints.new.table ≡ length hints.old.table }
     ensures refused { hints.new.cache.refused ≡ hints.old.cache.refused }
     ensures handy { KeepsEachHandy hints.old.cache hints.new.cache }
@@ -97,7 +102,8 @@ fn drop_pages<D: Disk>(
 /// Releases all sectors of a file that has no entries of its own and isn't a system file: its leader, whose label commits, and then its
 /// data pages, rising, each found by the next link of the page before it. It is the drop of the file except for the slot of its entry,
 /// which the directory frees next. Two record writes of each page. The sectors are free in the table then, and the cache has forgotten the
-/// pages; after an error it has forgotten those that went. `buf` is used, and what it holds then is open.
+/// pages; after an error it has forgotten those that went. On any pack, and whatever the answer is, each record write is in a page of the
+/// file, and each bit of the table is as it was, or free as its sector is. `buf` is used, and what it holds then is open.
 ///
 /// Misled: the address that the file is named with misleads, or a next link of the file: then nothing was written, or the file is gone and
 /// later pages are left, which a scavenge releases; where the machine isn't modelled also the sector in which this call found a page of the
@@ -112,13 +118,16 @@ pub fn drop_file<D: Disk>(
 ) -> Result<(), FileError>
     requires sized { length hints.old.table ≡ pages_of (D.tape disk.old).form }
     ensures releases { IsTrue D.told → FileStands (pack (D.tape disk.old)) file.now → MayBeDropped (pack (D.tape disk.old)) file.now.fid → Releases error.DiskFault error.Memory file.now.fid (around (D.tape disk.old) hints.old.table tally.old) (around (D.tape disk.new) hints.new.table tally.new) result }
+    ensures drops { (pages : List ℕ) → IsTrue D.told → AreAfter (pack (D.tape disk.old)) file.now.fid 0 pages → Drops (pack (D.tape disk.old)) file.now.fid pages (around (D.tape disk.old) hints.old.table tally.old) (around (D.tape disk.new) hints.new.table tally.new) result }
     ensures goes { IsTrue D.told → FileStands (pack (D.tape disk.old)) file.now → MayBeDropped (pack (D.tape disk.old)) file.now.fid → DropsButSlot (pack (D.tape disk.old)) file.now.fid (added (D.tape disk.old) (D.tape disk.new)) result }
     ensures misled { IsTrue D.told → FileStands (pack (D.tape disk.old)) file.now → IfMisled result (MisledBy (pack (D.tape disk.old)) (added (D.tape disk.old) (D.tape disk.new)) file.now.fid) }
     ensures hint { IsTrue D.told → IfMisled result (IsOwnHint file.now) }
     ensures given { IfMisled result (IsHintOrFound file.now) }
     ensures true_links { IsTrue D.told → FileStands (pack (D.tape disk.old)) file.now → LinksTrue (pack (D.tape disk.old)) → IfMisled result (λ place at wanted found. ⊥) }
+    ensures frame { IsTrue D.told → WritesIn (IsPageOf file.now.fid (pack (D.tape disk.old))) (added (D.tape disk.old) (D.tape disk.new)) }
     ensures cause { HasCause cause_of_length (D.tape disk.old) (D.tape disk.new) result }
     ensures alone { DiskAlone (D.tape disk.old) (D.tape disk.new) }
+    ensures bits { IsTrue D.told → KeepsOrFrees (pack (D.tape disk.new)) hints.old.table hints.new.table }
     ensures sized { length hints.new.table ≡ length hints.old.table }
     ensures refused { hints.old.cache.refused ≤ hints.new.cache.refused }
     ensures forgotten { IsTrue D.told → FileStands (pack (D.tape disk.old)) file.now → OnOk result (Forgotten hints.new.cache file.now.fid 0 (page_of_byte (file_length (pack (D.tape disk.old)) file.now.fid))) }

@@ -3,6 +3,7 @@ ghost use Rattle.std.specs.Prelude.{◌≡◌, ◌+◌, ◌*◌, ◌<◌, ◌≤
 ghost use Rattle.alto_words.specs.Fid.{is_full_name};
 ghost use Rattle.disk_records.specs.Addresses.{pages_of};
 ghost use Rattle.disk_records.specs.Causes.{HasCause};
+ghost use Rattle.disk_records.specs.Frames.{IsFreeSector, WritesIn};
 ghost use Rattle.disk_records.specs.Tapes.{DiskAlone, added, pack};
 ghost use Rattle.laws_call.specs.Acting.{IsQuiet, Operates, around};
 ghost use Rattle.page_seeking.specs.Causes.{cause_of_length};
@@ -16,7 +17,7 @@ ghost use Rattle.pack_model.specs.reading.Files.{place};
 ghost use Rattle.pack_model.specs.reading.Sights.{sights};
 ghost use Rattle.pack_model.specs.states.Whole.{Tidy, Whole};
 ghost use Rattle.file_pages.specs.Calls.{StaysHandy, WasHeld};
-ghost use Rattle.file_pages.specs.Growing.{Grew, GrowsWith, IsHintOfGrowth, IsSector, ListsGrown, MayBeGrown, WasGivenToGrow, WritesAs, growth_writes};
+ghost use Rattle.file_pages.specs.Growing.{Grew, GrowsWith, IsEndOrFree, IsHereOrFree, IsHintOfGrowth, IsSector, ListsGrown, MayBeGrown, WasGivenToGrow, WritesAs, growth_writes};
 
 use crate::claims::{after_first, claim_pages, link_to_first, past_last, words_that_fit};
 use crate::last_words::{commit_page, with_count};
@@ -77,6 +78,8 @@ fn grow_pages<D: Disk>(
     ensures cause { HasCause cause_of_length (D.tape disk.old) (D.tape disk.new) result }
     ensures alone { DiskAlone (D.tape disk.old) (D.tape disk.new) }
     ensures grew { (o : Operation) → IsTrue D.told → Whole (pack (D.tape disk.old)) → Tidy (pack (D.tape disk.old)) → Stands (pack (D.tape disk.old)) (page_number fid last.number) last.at buf.old → IsLast (pack (D.tape disk.old)) fid last → MayBeGrown (pack (D.tape disk.old)) o fid bytes.now past.now fresh.now → OnOk result (Grew (pack (D.tape disk.old)) (pack (D.tape disk.new)) fid last.number fresh.now) }
+    ensures frame { IsTrue D.told → WritesIn (IsHereOrFree last.at (pack (D.tape disk.old))) (added (D.tape disk.old) (D.tape disk.new)) }
+    ensures were_free { IsTrue D.told → OnOk result (All (IsFreeSector (pack (D.tape disk.old))) fresh.now) }
     ensures table { OnErr result (table.new ≡ table.old) }
     ensures few { OnOk result (last.number + length fresh.now ≤ 65535) }
     ensures sized { length table.new ≡ length table.old }
@@ -112,7 +115,9 @@ fn grow_pages<D: Disk>(
 /// page that is the last then. The sectors have to be free ones, each of them once, and as many as pages come. The last page is located
 /// first; what `buf` holds afterwards is open. With m pages that come there are 3m + 3 record writes, and with true links, handy hints and
 /// a leader that names the last page at most 2m + 6 sector commands. The sectors of the pages that come are busy in the table then; the
-/// cache lists the last 48 of these pages, and the last page if none comes, unless a note was refused.
+/// cache lists the last 48 of these pages, and the last page if none comes, unless a note was refused. On any pack, and whatever the answer
+/// is, each record write is in a sector that was free or in the page that was the last; so a sector of `fresh` that isn't free stays, unless
+/// it carries that page, and the answer isn't Ok then.
 ///
 /// Misled: the address that the file is named with or a next link of it misleads. Of what isn't as asked, or where the machine isn't
 /// modelled, it also comes of an address of `fresh` that is no usable sector's or whose sector isn't free, and of the sector in which this
@@ -141,6 +146,10 @@ pub fn grow<D: Disk>(
     ensures cause { HasCause cause_of_length (D.tape disk.old) (D.tape disk.new) result }
     ensures alone { DiskAlone (D.tape disk.old) (D.tape disk.new) }
     ensures quick { (o : Operation) → IsTrue D.told → FileStands (pack (D.tape disk.old)) file.now → MayBeGrown (pack (D.tape disk.old)) o file.now.fid bytes.now past.now fresh.now → Quick (pack (D.tape disk.old)) file.now.fid hints.old.cache → LastNamed (pack (D.tape disk.old)) file.now.fid → OnOk result ((D.tape disk.new).runs ≤ (D.tape disk.old).runs + (2 * length fresh.now + 6)) }
+
+    // Where it writes, on every modelled pack; a sector that was given as free and isn't stays, unless it carries such a page.
+    ensures frame { IsTrue D.told → WritesIn (IsEndOrFree file.now.fid (pack (D.tape disk.old))) (added (D.tape disk.old) (D.tape disk.new)) }
+    ensures were_free { IsTrue D.told → OnOk result (All (IsFreeSector (pack (D.tape disk.old))) fresh.now) }
 
     // What becomes of the hints. The leader names the page that it named, and so many more come after it.
     ensures named { (o : Operation) (more : ℕ) → IsTrue D.told → FileStands (pack (D.tape disk.old)) file.now → MayBeGrown (pack (D.tape disk.old)) o file.now.fid bytes.now past.now fresh.now → NamedNearEnd (pack (D.tape disk.old)) file.now.fid more → OnOk result (NamedNearEnd (pack (D.tape disk.new)) file.now.fid (more + length fresh.now)) }

@@ -2,6 +2,7 @@
 ghost use Rattle.std.specs.Prelude.{◌≡◌, ◌≢◌, ◌<◌, ◌≤◌, IsTrue, Some, []};
 ghost use Rattle.disk_records.specs.Addresses.{pages_of};
 ghost use Rattle.disk_records.specs.Causes.{HasCause};
+ghost use Rattle.disk_records.specs.Frames.{WritesIn};
 ghost use Rattle.disk_records.specs.Labels.{page_of};
 ghost use Rattle.disk_records.specs.Packs.{carried};
 ghost use Rattle.disk_records.specs.Tapes.{DiskAlone, added, pack};
@@ -44,6 +45,7 @@ pub(crate) fn commit_page<D: Disk>(
     requires same { page_of label ≡ Some page }
     ensures commits { IsTrue D.told → carried (pack (D.tape disk.old)) at ≡ Some page → Commits at label value.now (D.tape disk.old) (D.tape disk.new) tally.old tally.new result }
     ensures guards { IsTrue D.told → added (D.tape disk.old) (D.tape disk.new) ≢ [] → carried (pack (D.tape disk.old)) at ≡ Some page }
+    ensures frame { IsTrue D.told → WritesIn (λ i. i ≡ at) (added (D.tape disk.old) (D.tape disk.new)) }
     ensures misled { IsTrue D.told → carried (pack (D.tape disk.old)) at ≡ Some page → IfMisled result (λ place at wanted found. ⊥) }
     ensures held { IfMisled result (WasHeld at page) }
     ensures cause { HasCause cause_of_length (D.tape disk.old) (D.tape disk.new) result }

@@ -3,6 +3,7 @@ ghost use Rattle.std.specs.Prelude.{◌≡◌, ◌+◌, ◌≤◌, ℕ, IsErrOf,
 ghost use Rattle.alto_words.specs.Names.{is_stored_name};
 ghost use Rattle.disk_records.specs.Bytes.{put_at};
 ghost use Rattle.disk_records.specs.Causes.{HasCause};
+ghost use Rattle.disk_records.specs.Frames.{IsPageOf, WritesIn};
 ghost use Rattle.disk_records.specs.Tapes.{DiskAlone, added, pack};
 ghost use Rattle.laws_call.specs.Acting.{Operates, around};
 ghost use Rattle.laws_operation.specs.ByteLaws.{IsOrdinary};
@@ -13,7 +14,7 @@ ghost use Rattle.page_seeking.specs.Refs.{FileStands, IfMisled, IsOwnHint, Misle
 ghost use Rattle.page_seeking.specs.Seeking.{LastNamed, NamedNearEnd, Quick, QuickCache};
 ghost use Rattle.page_seeking.specs.declared.refs.FileError.TheVariants as error;
 ghost use Rattle.file_pages.specs.Calls.{IsHintOrFound, ListsItsEnd, ListsLeader, to_stamp, to_title};
-ghost use Rattle.file_pages.specs.Values.{LeavesHandy};
+ghost use Rattle.file_pages.specs.Values.{LeavesHandy, Stamps, Titles};
 
 use crate::ends::locate_ends;
 use crate::one_value::write_page;
@@ -56,7 +57,9 @@ pub fn title<D: Disk>(
     name: &Name,
     buf: &mut Sector,
 ) -> Result<(), FileError>
+    ensures frame { IsTrue D.told → WritesIn (IsPageOf file.now.fid (pack (D.tape disk.old))) (added (D.tape disk.old) (D.tape disk.new)) }
     ensures operates { IsTrue D.told → FileStands (pack (D.tape disk.old)) file.now → IsOrdinary file.now.fid → Operates error.DiskFault error.Memory (to_title file.now.fid name.now) [] (around (D.tape disk.old) hints.old.table tally.old) (around (D.tape disk.new) hints.new.table tally.new) result }
+    ensures titles { IsTrue D.told → Titles (pack (D.tape disk.old)) file.now.fid name.now (around (D.tape disk.old) hints.old.table tally.old) (around (D.tape disk.new) hints.new.table tally.new) result }
     ensures misled { IsTrue D.told → FileStands (pack (D.tape disk.old)) file.now → IfMisled result (MisledBy (pack (D.tape disk.old)) [] file.now.fid) }
     ensures hint { IsTrue D.told → IfMisled result (IsOwnHint file.now) }
     ensures given { IfMisled result (IsHintOrFound file.now) }
@@ -119,7 +122,9 @@ pub fn stamp<D: Disk>(
     moment: u32,
     buf: &mut Sector,
 ) -> Result<(), FileError>
+    ensures frame { IsTrue D.told → WritesIn (IsPageOf file.now.fid (pack (D.tape disk.old))) (added (D.tape disk.old) (D.tape disk.new)) }
     ensures operates { IsTrue D.told → FileStands (pack (D.tape disk.old)) file.now → IsOrdinary file.now.fid → Operates error.DiskFault error.Memory (to_stamp file.now.fid moment) [] (around (D.tape disk.old) hints.old.table tally.old) (around (D.tape disk.new) hints.new.table tally.new) result }
+    ensures stamps { IsTrue D.told → Stamps (pack (D.tape disk.old)) file.now.fid moment (around (D.tape disk.old) hints.old.table tally.old) (around (D.tape disk.new) hints.new.table tally.new) result }
     ensures misled { IsTrue D.told → FileStands (pack (D.tape disk.old)) file.now → IfMisled result (MisledBy (pack (D.tape disk.old)) [] file.now.fid) }
     ensures hint { IsTrue D.told → IfMisled result (IsOwnHint file.now) }
     ensures given { IfMisled result (IsHintOrFound file.now) }

@@ -3,7 +3,8 @@ ghost use Rattle.std.specs.Prelude.{◌≡◌, ◌+◌, ◌<◌, ◌≤◌, ◌�
 ghost use Rattle.alto_words.specs.Fid.{is_full_name};
 ghost use Rattle.disk_records.specs.Addresses.{pages_of};
 ghost use Rattle.disk_records.specs.Causes.{HasCause};
-ghost use Rattle.disk_records.specs.Tapes.{DiskAlone, pack};
+ghost use Rattle.disk_records.specs.Frames.{IsFreeSector, WritesIn};
+ghost use Rattle.disk_records.specs.Tapes.{DiskAlone, added, pack};
 ghost use Rattle.disk_records.specs.Words.{word};
 ghost use Rattle.disk_records.specs.declared.records.Place.TheVariants as place;
 ghost use Rattle.laws_call.specs.Acting.{Operates, around};
@@ -48,6 +49,8 @@ fn make_file<D: Disk>(
     requires leader_last { leader_at < pages_of (D.tape disk.old).form }
     requires page_first { 1 ≤ page_at }
     requires page_last { page_at < pages_of (D.tape disk.old).form }
+    ensures frame { IsTrue D.told → WritesIn (IsFreeSector (pack (D.tape disk.old))) (added (D.tape disk.old) (D.tape disk.new)) }
+    ensures were_free { IsTrue D.told → OnOk result (IsFreeSector (pack (D.tape disk.old)) leader_at × IsFreeSector (pack (D.tape disk.old)) page_at) }
     ensures operates { IsTrue D.told → MayBeMade (pack (D.tape disk.old)) fid name.now leader_at page_at → Operates error.DiskFault error.Memory (to_make fid name.now moment) (page_at ∷ leader_at ∷ []) (around (D.tape disk.old) table.old tally.old) (around (D.tape disk.new) table.new tally.new) result }
     ensures placed { IsTrue D.told → MayBeMade (pack (D.tape disk.old)) fid name.now leader_at page_at → OnOk result (HasTwoPages (pack (D.tape disk.new)) fid leader_at page_at) }
     ensures others { IsTrue D.told → MayBeMade (pack (D.tape disk.old)) fid name.now leader_at page_at → OnOk result (LeavesOthers fid (pack (D.tape disk.old)) (pack (D.tape disk.new))) }
@@ -125,6 +128,8 @@ pub fn make<D: Disk>(
 ) -> Result<(), FileError>
     requires sized { length hints.old.table ≡ pages_of (D.tape disk.old).form }
     requires full_name { is_full_name fid ≡ true }
+    ensures frame { IsTrue D.told → WritesIn (IsFreeSector (pack (D.tape disk.old))) (added (D.tape disk.old) (D.tape disk.new)) }
+    ensures were_free { IsTrue D.told → OnOk result (IsFreeSector (pack (D.tape disk.old)) (word fresh 0) × IsFreeSector (pack (D.tape disk.old)) (word fresh 1)) }
     ensures operates { IsTrue D.told → MayBeMade (pack (D.tape disk.old)) fid name.now (word fresh 0) (word fresh 1) → Operates error.DiskFault error.Memory (to_make fid name.now moment) (word fresh 1 ∷ word fresh 0 ∷ []) (around (D.tape disk.old) hints.old.table tally.old) (around (D.tape disk.new) hints.new.table tally.new) result }
     ensures placed { IsTrue D.told → MayBeMade (pack (D.tape disk.old)) fid name.now (word fresh 0) (word fresh 1) → OnOk result (HasTwoPages (pack (D.tape disk.new)) fid (word fresh 0) (word fresh 1)) }
     ensures misled { IsTrue D.told → MayBeMade (pack (D.tape disk.old)) fid name.now (word fresh 0) (word fresh 1) → IfMisled result (λ place at wanted found. ⊥) }

@@ -2,6 +2,7 @@
 ghost use Rattle.std.specs.Prelude.{◌≡◌, ◌≢◌, ◌+◌, ◌<◌, ◌≤◌, Bool, IsTrue, List, Some, []};
 ghost use Rattle.disk_records.specs.Addresses.{pages_of};
 ghost use Rattle.disk_records.specs.Causes.{HasCause};
+ghost use Rattle.disk_records.specs.Frames.{IsPageOf, WritesIn};
 ghost use Rattle.disk_records.specs.Packs.{carried};
 ghost use Rattle.disk_records.specs.Tapes.{DiskAlone, added, pack};
 ghost use Rattle.label_check.specs.Guarded.{Carries, FoundWrong};
@@ -35,6 +36,7 @@ pub fn write_page<D: Disk>(
     requires place { at < pages_of (D.tape disk.old).form }
     ensures writes { (o : Operation) (bits : List Bool) → IsTrue D.told → WroteValue at value.now o (around (D.tape disk.old) bits tally.old) (around (D.tape disk.new) bits tally.new) result }
     ensures guards { IsTrue D.told → added (D.tape disk.old) (D.tape disk.new) ≢ [] → carried (pack (D.tape disk.old)) at ≡ Some page }
+    ensures frame { IsTrue D.told → WritesIn (IsPageOf page.fid (pack (D.tape disk.old))) (added (D.tape disk.old) (D.tape disk.new)) }
     ensures misled { IsTrue D.told → carried (pack (D.tape disk.old)) at ≡ Some page → IfMisled result (λ place at wanted found. ⊥) }
     ensures held { IfMisled result (WasHeld at page) }
     ensures found { IsTrue D.told → IfMisled result (λ place w wanted found. FoundWrong (Carries at page) at (D.tape disk.old) (D.tape disk.new) found) }

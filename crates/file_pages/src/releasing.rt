@@ -2,6 +2,7 @@
 ghost use Rattle.std.specs.Prelude.{None, ◌/◌, ◌≡◌, ◌≢◌, ◌⊎◌, ◌+◌, ◌<◌, ◌≤◌, ℕ, List, set, true, false, IfOk, IsErrOf, IsTrue, OnErr, OnOk, length};
 ghost use Rattle.disk_records.specs.Addresses.{pages_of};
 ghost use Rattle.disk_records.specs.Causes.{HasCause};
+ghost use Rattle.disk_records.specs.Frames.{IsPageOf, WritesIn};
 ghost use Rattle.disk_records.specs.Commands.{release_writes};
 ghost use Rattle.disk_records.specs.Events.{IsFirstOf};
 ghost use Rattle.disk_records.specs.Packs.{Pack, carried};
@@ -13,7 +14,7 @@ ghost use Rattle.page_seeking.specs.Causes.{cause_of_length};
 ghost use Rattle.page_seeking.specs.Refs.{IfMisled, IsOwnLink};
 ghost use Rattle.page_seeking.specs.Seeking.{file_length, IsFull, Seen, Stands, page_after, page_number};
 ghost use Rattle.page_seeking.specs.declared.refs.FileError.TheVariants as error;
-ghost use Rattle.file_pages.specs.Releasing.{AreAfter, Follows, Forgotten, KeepsEachHandy, KeepsOthers, ListsNoMore, ListsNoneGone, MisledSince, OnlyGo, ReleasesAll, ReleasesNext};
+ghost use Rattle.file_pages.specs.Releasing.{AreAfter, Follows, Forgotten, KeepsEachHandy, KeepsOrFrees, KeepsOthers, ListsNoMore, ListsNoneGone, MisledSince, OnlyGo, ReleasesAll, ReleasesNext};
 
 use crate::FileError;
 use crate::refs::error_at;
@@ -99,6 +100,8 @@ fn release_after<D: Disk>(
     ensures want { IsTrue D.told → IsErrOf result error.Memory → (D.tape disk.old).spare < 2 }
     ensures cause { HasCause cause_of_length (D.tape disk.old) (D.tape disk.new) result }
     ensures alone { DiskAlone (D.tape disk.old) (D.tape disk.new) }
+    ensures frame { IsTrue D.told → WritesIn (IsPageOf page.fid (pack (D.tape disk.old))) (added (D.tape disk.old) (D.tape disk.new)) }
+    ensures bits { IsTrue D.told → KeepsOrFrees (pack (D.tape disk.new)) hints.old.table hints.new.table }
     ensures sized { length hints.new.table ≡ length hints.old.table }
     ensures refused { hints.new.cache.refused ≡ hints.old.cache.refused }
     ensures handy { KeepsEachHandy hints.old.cache hints.new.cache }
@@ -144,6 +147,8 @@ pub(crate) fn release_rest<D: Disk>(
     ensures link { IfMisled result (λ place at wanted found. IsOwnLink fid place wanted) }
     ensures cause { HasCause cause_of_length (D.tape disk.old) (D.tape disk.new) result }
     ensures alone { DiskAlone (D.tape disk.old) (D.tape disk.new) }
+    ensures frame { IsTrue D.told → WritesIn (IsPageOf fid (pack (D.tape disk.old))) (added (D.tape disk.old) (D.tape disk.new)) }
+    ensures bits { IsTrue D.told → KeepsOrFrees (pack (D.tape disk.new)) hints.old.table hints.new.table }
     ensures sized { length hints.new.table ≡ length hints.old.table }
     ensures refused { hints.new.cache.refused ≡ hints.old.cache.refused }
     ensures handy { KeepsEachHandy hints.old.cache hints.new.cache }

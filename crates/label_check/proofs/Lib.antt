@@ -1,3 +1,4 @@
 mod Matching
 mod Guarding
 mod Freeing
+pub mod Framing

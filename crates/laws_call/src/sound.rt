@@ -2,8 +2,8 @@
 
 ghost use Rattle.laws_call.specs.SoundCalls.{CallsOnASoundPack};
 
-/// If the calls do a line of the operating system, with the sectors for it, each crash point can be scavenged for every answer, and the
-/// record writes make a prefix of the line's moves; at Ok the line is done and the pack is sound again.
+/// On a sound pack, if calls do a line of the operating system with the sectors for it, each crash point can be scavenged for every answer,
+/// the moves are a prefix of the line's, and at Ok it is done and the pack sound.
 pub fn calls_on_a_sound_pack<T, E>()
     ensures { CallsOnASoundPack T E }
 {}

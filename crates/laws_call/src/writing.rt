@@ -8,8 +8,8 @@ pub fn written_acts()
     ensures { WrittenActs }
 {}
 
-/// All record writes of an operation leave all other files and the leader of the file that is written, mislead no hint that didn't mislead,
-/// and release no free sector.
+/// On a whole and tidy pack what is `Written` of an operation, unless it is a drop, leaves all other files and the leader of its own file,
+/// misleads no hint that didn't mislead, and releases no free sector.
 pub fn written_stays_known()
     ensures { WrittenStaysKnown }
 {}

@@ -2,7 +2,7 @@
 
 ghost use Rattle.laws_contents.specs.ByteContents.{BytesStandInTheirPage, EachByteHasItsPage, PageGoesOn, PageIsASlice, PagesInARowAreASlice};
 
-/// On any pack a data page after full ones is 512 bytes of the file, or as many as are left.
+/// On any pack a data page after full ones is the 512 bytes of the file that begin there, or as many as are left.
 pub fn page_is_a_slice()
     ensures { PageIsASlice }
 {}

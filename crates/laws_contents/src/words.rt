@@ -12,7 +12,7 @@ pub fn each_word_has_its_page()
     ensures { EachWordHasItsPage }
 {}
 
-/// On any pack the counted words of a data page after full ones are 256 words of the file, or as many as are left.
+/// On any pack the counted words of a data page after full ones are the 256 words of the file that begin there, or as many as are left.
 pub fn page_words_are_a_slice()
     ensures { PageWordsAreASlice }
 {}

@@ -18,13 +18,14 @@ pub fn formatted_pack_shows_nothing()
     ensures { FormattedPackShowsNothing }
 {}
 
-/// Free in the pack that formatting writes are all sectors after those in use, and no others, in each meaning of a free one.
+/// The pack that formatting writes has a sector for each address; free are all sectors after those in use, and no others, in each meaning
+/// of a free one; they are as many as formatting answers, and its map says so.
 pub fn formatted_pack_has_free_sectors()
     ensures { FormattedPackHasFreeSectors }
 {}
 
-/// In the pack that formatting writes, DiskDescriptor fits, with the last serial 2 and the clean mark, and says the map of its free
-/// sectors.
+/// In the pack that formatting writes DiskDescriptor fits, with the last serial 2, the clean mark and its pages from sector 4 on, and says
+/// the map of the free sectors.
 pub fn formatted_descriptor_fits()
     ensures { FormattedDescriptorFits }
 {}

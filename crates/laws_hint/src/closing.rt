@@ -5,7 +5,8 @@
 ghost use Rattle.laws_hint.specs.ClosingLaws.{ClosingLeavesACleanPack, ClosingLeavesHintsTrue};
 ghost use Rattle.laws_hint.specs.MapClosing.{ClosedMapIsReadBack, ClosedMapIsTrueWhereItWas, ClosingDescribesItsMap};
 
-/// On a whole and tidy pack where all links are true and the mark isn't clean, closing with the true map leaves all hints true.
+/// On a whole and tidy pack where all links are true and the mark isn't clean, closing with the true map leaves all hints true, the pack
+/// clean, and sound if it was.
 pub fn closing_leaves_hints_true()
     ensures { ClosingLeavesHintsTrue }
 {}
@@ -27,8 +28,8 @@ pub fn closed_map_is_read_back()
     ensures { ClosedMapIsReadBack }
 {}
 
-/// After closing a whole and tidy pack whose mark isn't clean and that has a sector for each address, with a map that has a bit for
-/// each sector, the words of DiskDescriptor's map are true if and only if that map was the true one before.
+/// On a whole and tidy pack with a sector for each address, whose mark isn't clean, closing with a map that has a bit for each sector
+/// leaves DiskDescriptor's map true if and only if that map was the true one before.
 pub fn closed_map_is_true_where_it_was()
     ensures { ClosedMapIsTrueWhereItWas }
 {}

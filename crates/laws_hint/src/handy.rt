@@ -22,7 +22,8 @@ pub fn handy_where_pages_come()
     ensures { HandyWherePagesCome }
 {}
 
-/// An operation on one file leaves the hints of all others handy.
+/// Where all other files are left as they were, as an operation on one file of a whole and tidy pack leaves them, their hints are handy
+/// still.
 pub fn handy_of_others()
     ensures { HandyOfOthers }
 {}

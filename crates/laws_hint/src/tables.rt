@@ -12,7 +12,8 @@ pub fn reserved_in_any_order()
     ensures { ReservedInAnyOrder }
 {}
 
-/// After an operation the table with the claimed sectors busy and the released ones free has the other sectors reserved that were.
+/// After an operation that claims some of the reserved sectors and releases others that weren't free, the table with the claimed ones busy
+/// and the released ones free has the rest reserved.
 pub fn operations_use_the_table()
     ensures { OperationsUseTheTable }
 {}

@@ -12,7 +12,8 @@ pub fn truth_goes_on()
     ensures { TruthGoesOn }
 {}
 
-/// Closing then leaves all hints true, whether the mark was open or is clean still.
+/// On a whole and tidy pack where links and the table are true, closing with that table leaves all hints true, whether the mark was open or
+/// is clean still.
 pub fn truth_at_closing()
     ensures { TruthAtClosing }
 {}

@@ -2,22 +2,25 @@
 
 ghost use Rattle.laws_line.specs.AfterLaws.{DirectoriesAreRead, PrefixReady, NewDirectory, RootIsDirectory, SettledAfterChanges, SettledAfterDrop, SettledAfterNewFile, SettledAfterRename};
 
-/// Puts within a file, growths, cuts, titles, dates and widenings leave every file its name.
+/// From a settled model with room for the pages that they add, puts within a file, growths, cuts, titles, dates and widenings leave a
+/// settled one.
 pub fn settled_after_changes()
     ensures { SettledAfterChanges }
 {}
 
-/// A file that goes leaves the others their names.
+/// From a settled model a file that isn't a system file, and has no entries of its own, goes and leaves a settled one.
 pub fn settled_after_drop()
     ensures { SettledAfterDrop }
 {}
 
-/// A file that is made and entered in a directory of the model has a name then: its entry finds room.
+/// From a settled model with room for the pages that the line adds, a file that is made and entered in a directory of the model leaves a
+/// settled one: its entry finds room.
 pub fn settled_after_new_file()
     ensures { SettledAfterNewFile }
 {}
 
-/// A renamed file has its new name, where that is entered in a directory of the model.
+/// From a settled model with room for the pages that the line adds, a file that is renamed into a directory of the model leaves a settled
+/// one, with its new name.
 pub fn settled_after_rename()
     ensures { SettledAfterRename }
 {}

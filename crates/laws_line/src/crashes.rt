@@ -3,8 +3,8 @@
 ghost use Rattle.laws_line.specs.CrashLaws.{CrashesOfALine, CrashesOfAnOperation, CrashesOfAnUnmarkedLine, CrashesOfEnter, LinesJoin, OpenPackIsUnmarked};
 ghost use Rattle.laws_line.specs.EachLaws.{CrashesOfEachOperation};
 
-/// On a whole pack whose mark is open, an operation that leaves SysDir's leader and DiskDescriptor alone can be scavenged at every crash
-/// point, if its models are ready.
+/// On a whole pack without the clean mark, record writes that carry out an operation and leave SysDir's leader and DiskDescriptor alone can
+/// be scavenged, and aren't clean, at every crash point, if both models are ready.
 pub fn crashes_of_an_operation()
     ensures { CrashesOfAnOperation }
 {}
@@ -21,12 +21,14 @@ pub fn crashes_of_each_operation()
     ensures { CrashesOfEachOperation }
 {}
 
-/// On a whole and tidy pack whose mark is open, a line whose models are ready can be scavenged at every crash point.
+/// On a whole and tidy pack without the clean mark, operations one after another, a new serial right before each make, can be scavenged at
+/// every crash point if their models are ready; the pack is read as the last one.
 pub fn crashes_of_an_unmarked_line()
     ensures { CrashesOfAnUnmarkedLine }
 {}
 
-/// From a sound pack, a line whose models are ready can be scavenged at every crash point, with the opening of the mark before it.
+/// From a sound pack, a line whose models are ready can be scavenged at every crash point, with the opening of the mark before it, and is
+/// clean at one only if it is sound there.
 pub fn crashes_of_a_line()
     ensures { CrashesOfALine }
 {}

@@ -2,7 +2,7 @@
 
 ghost use Rattle.laws_line.specs.LineLaws.{ChangesLeaveRoom, DropLeavesRoom, NewFileLeavesRoom, ReadyHasRoom, RenameLeavesRoom, SoundIsSettled};
 
-/// Where at most one file has no name, and SysDir has a run of free words for it, the files as the Scavenger will find them have room.
+/// A ready model has room for its files, as the Scavenger will find them.
 pub fn ready_has_room()
     ensures { ReadyHasRoom }
 {}
@@ -12,23 +12,25 @@ pub fn sound_is_settled()
     ensures { SoundIsSettled }
 {}
 
-/// Puts within a file, growths, cuts, titles, dates and widenings need the pages that they add.
+/// From a settled model puts within a file, growths, cuts, titles, dates and widenings leave a ready one after each, if there is room for
+/// the pages that they add.
 pub fn changes_leave_room()
     ensures { ChangesLeaveRoom }
 {}
 
-/// A file without entries of its own that goes needs nothing.
+/// From a settled model a file that isn't a system file, and has no entries of its own, goes and leaves a ready one, with no page more.
 pub fn drop_leaves_room()
     ensures { DropLeavesRoom }
 {}
 
-/// A file that is made and entered needs the pages that the line adds, with one for SysDir where it has no run of free words for the
-/// longest entry; then come operations that leave names as they are.
+/// From a settled model a new file that is made, entered and changed leaves a ready one after each operation, if there is room for the
+/// line's pages, with one for SysDir where it has no run of free words for the longest entry.
 pub fn new_file_leaves_room()
     ensures { NewFileLeavesRoom }
 {}
 
-/// A file that is renamed needs the pages that the line adds, with one for SysDir where it has no run of free words for the longest entry.
+/// From a settled model a file that is renamed leaves a ready one after each operation, if there is room for the pages of the line, with
+/// one for SysDir where it has no run of free words for the longest entry.
 pub fn rename_leaves_room()
     ensures { RenameLeavesRoom }
 {}

@@ -3,14 +3,14 @@
 ghost use Rattle.laws_line.specs.SoundLines.{CrashesOfALineOnASoundPack};
 ghost use Rattle.laws_line.specs.SoundParts.{BrokenLineOnASoundPack, PartOfALineOnASoundPack};
 
-/// Each crash point of a whole line is viewed as its model, can be scavenged, and is clean only where it is sound; after the line the
-/// pack is sound again.
+/// From a sound pack with as many free sectors as a line of the operating system adds pages, each crash point is viewed as its model and
+/// can be scavenged, the moves are a session's, and the pack is sound again.
 pub fn crashes_of_a_line_on_a_sound_pack()
     ensures { CrashesOfALineOnASoundPack }
 {}
 
-/// Each crash point of the first operations of a line is as in the whole line, and their moves are a prefix of the line's; so it is, too,
-/// where there is no operation yet and the mark is opened.
+/// From a sound pack with the sectors for a line, each crash point of its first operations is as in the whole line, and their moves are a
+/// prefix of the line's; also where no operation is done yet and the mark is opened.
 pub fn part_of_a_line_on_a_sound_pack()
     ensures { PartOfALineOnASoundPack }
 {}

@@ -7,7 +7,7 @@ pub fn apart_entry_fits()
     ensures { ApartEntryFits }
 {}
 
-/// On a whole pack such an entry of a living file may be entered.
+/// On a whole pack an entry that clashes with none may be entered, if its file lives.
 pub fn apart_entry_may_be_entered()
     ensures { ApartEntryMayBeEntered }
 {}

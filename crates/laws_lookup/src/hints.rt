@@ -2,7 +2,7 @@
 
 ghost use Rattle.laws_lookup.specs.HintLaws.{HeldAddressNeverMisleads, HintMisledBefore, HintNamesOneSector, LabelOfAnotherPageMisleads, LinkMeansTheNextPage, NoSectorMisleads, PlaceMeansOnePage, RootNeverMisleads, TrueHintsNeverMislead};
 
-/// On a whole and tidy pack with true links no entry's address and no next link misleads.
+/// On a whole and tidy pack with true links and full values no entry's address and no next link misleads.
 pub fn true_hints_never_mislead()
     ensures { TrueHintsNeverMislead }
 {}
@@ -17,7 +17,7 @@ pub fn held_address_never_misleads()
     ensures { HeldAddressNeverMisleads }
 {}
 
-/// A hint word names one sector at most.
+/// A hint word names one sector at most: a link, as a real address, is that of one virtual one.
 pub fn hint_names_one_sector()
     ensures { HintNamesOneSector }
 {}

@@ -37,17 +37,17 @@ pub fn release_leaves_others()
     ensures { ReleaseLeavesOthers }
 {}
 
-/// A growth leaves each old page of its file in its place.
+/// A growth on a whole and tidy pack leaves each old page of its file in its place.
 pub fn grow_keeps_pages()
     ensures { GrowKeepsPages }
 {}
 
-/// A widening leaves each old page of its directory in its place.
+/// A widening on a whole and tidy pack leaves each old page of its directory in its place.
 pub fn widen_keeps_pages()
     ensures { WidenKeepsPages }
 {}
 
-/// A cut leaves each page up to the one that becomes the last in its place.
+/// A cut of a whole and tidy pack leaves each page up to the one that becomes the last in its place.
 pub fn cut_keeps_pages()
     ensures { CutKeepsPages }
 {}

@@ -22,7 +22,7 @@ pub fn widen_replaces_slots()
     ensures { WidenReplacesSlots }
 {}
 
-/// Slots in the place of others, the other way round.
+/// If slots come in the place of others from one pack to another, those come in the place of these from the second pack to the first.
 pub fn replacing_turns_round()
     ensures { ReplacingTurnsRound }
 {}
@@ -32,7 +32,7 @@ pub fn entry_beside_stands()
     ensures { EntryBesideStands }
 {}
 
-/// The address word of each entry is, if only free slots go.
+/// The address word of each entry of a directory is a hint still, for the same page, if only free slots go.
 pub fn entry_stands_outside_of_free_slots()
     ensures { EntryStandsOutsideOfFreeSlots }
 {}

@@ -47,12 +47,13 @@ pub fn held_is_the_models()
     ensures { HeldIsTheModels }
 {}
 
-/// The version of the entry that is meant by a base is the greatest of the base among the items.
+/// The version of the entry that is meant by a base is the greatest of the base among the items, 0 if no entry has it.
 pub fn version_met_is_the_greatest()
     ensures { VersionMetIsTheGreatest }
 {}
 
-/// On a tidy pack it is the greatest of the base in the model.
+/// On a tidy pack the version of the entry that is meant by a base in a living directory is the greatest of the base in the model, 0 if no
+/// entry has it.
 pub fn greatest_is_the_models()
     ensures { GreatestIsTheModels }
 {}

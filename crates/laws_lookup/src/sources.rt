@@ -7,7 +7,8 @@ pub fn looked_up_file_is_found()
     ensures { LookedUpFileIsFound }
 {}
 
-/// If the sector with the address that a file was found by doesn't carry its leader, the hint misleads.
+/// If the sector with the address that a file was found by doesn't carry its leader, the hint misleads, and what is found is the label
+/// there.
 pub fn leader_that_is_not_there_misleads()
     ensures { LeaderThatIsNotThereMisleads }
 {}

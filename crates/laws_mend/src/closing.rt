@@ -2,8 +2,8 @@
 
 ghost use Rattle.laws_mend.specs.ClosingLaws.{DescribedIsSound};
 
-/// A pack whose names are mended is sound and clean, with all hints true, once DiskDescriptor's data pages are written, from the last to the
-/// first, with a last serial that no living one is above and with the map of the free sectors, whatever words stood there.
+/// A pack whose names are mended is sound and clean, with all hints true, once DiskDescriptor's data pages are written, from the last to
+/// the first, with the map of the free sectors and a last serial that no living one is above.
 pub fn described_is_sound()
     ensures { DescribedIsSound }
 {}

@@ -24,8 +24,8 @@ pub fn directory_reaches_its_end()
     ensures { DirectoryReachesItsEnd }
 {}
 
-/// The pages of a living file that are there are those up to the one that the end of its bytes is in, if each living file has its last page,
-/// DiskDescriptor lives with the length of its format, and each good sector is free or in use.
+/// If each living file has its last page, DiskDescriptor lives with the length of its format, and each good sector is free or in use, the
+/// pages of a living file are those up to the one that its bytes end in.
 pub fn lasting_file_has_its_pages()
     ensures { LastingFileHasItsPages }
 {}

@@ -34,8 +34,8 @@ pub fn lacking_page_is_free()
     ensures { LackingPageIsFree }
 {}
 
-/// Such a pack has a free sector other than sector 1 if DiskDescriptor lacks its leader page or a data page of its format, also while its
-/// data pages stand without a leader page.
+/// A pack that can be scavenged, with SysDir's leader page in sector 1 and each good sector free or in use, has a free sector other than 1
+/// if DiskDescriptor lacks a page of its format, also while it stands without a leader page.
 pub fn lacking_descriptor_page_is_free()
     ensures { LackingDescriptorPageIsFree }
 {}

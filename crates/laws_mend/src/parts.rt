@@ -13,8 +13,8 @@ pub fn stray_release_leaves()
     ensures { StrayReleaseLeaves }
 {}
 
-/// A release of a page that isn't within its file's end leaves every other page its place and each living file its bytes, except of
-/// DiskDescriptor; each directory ends with its slots still, and the sectors that were free or in use are so, as the released one is.
+/// If each directory ends with its slots, a release of a page that isn't within its file's end leaves every other page its place and each
+/// living file its bytes, except DiskDescriptor; sectors free or in use stay so, and the released one is free.
 pub fn unused_release_leaves()
     ensures { UnusedReleaseLeaves }
 {}
@@ -25,8 +25,8 @@ pub fn directory_cut_leaves()
     ensures { DirectoryCutLeaves }
 {}
 
-/// A claim of a missing last page with 0 bytes, on a free sector other than sector 1, leaves each other page its place and all files their
-/// bytes; the file has its last page, and if it lives each good sector is free or in use as before.
+/// A claim of a missing last page with 0 bytes, on a free sector other than 1, leaves each other page its place and all files their bytes;
+/// the file has its last page, and good sectors stay free or in use if it lives.
 pub fn last_claim_leaves()
     ensures { LastClaimLeaves }
 {}
@@ -37,8 +37,8 @@ pub fn root_is_moved()
     ensures { RootIsMoved }
 {}
 
-/// A claim of SysDir's first data page, of 510 bytes whose first word is 255, and then one of its leader page in sector 1 leave SysDir with
-/// one free slot of 255 words, and each good sector free or in use, if it was and SysDir didn't live.
+/// If SysDir doesn't live, a claim of its first data page, of 510 bytes whose first word is 255, and then of its leader page in sector 1
+/// leave it one free slot of 255 words, and good sectors free or in use as before.
 pub fn root_is_made()
     ensures { RootIsMade }
 {}
@@ -61,26 +61,26 @@ pub fn described_is_lasting()
     ensures { DescribedIsLasting }
 {}
 
-/// So it is once DiskDescriptor's missing leader page is claimed on a free sector other than sector 1.
+/// If all data pages of DiskDescriptor are there with the counts of its format, and each other living file has its last page, a claim of
+/// its missing leader page, on a free sector other than 1, leaves each living file its last page.
 pub fn descriptor_leader_makes_lasting()
     ensures { DescriptorLeaderMakesLasting }
 {}
 
-/// A label with other links, and then the value that stands there, leave all that is shown, and every other sector its links; the sector
-/// has true ones if those of the label are.
+/// A label with other links, and then the value that stands there, leave all that is shown, all parts of a mended pack that were there, and
+/// every other sector its links; the sector has true ones if those of the label are.
 pub fn other_links_leave()
     ensures { OtherLinksLeave }
 {}
 
-/// A value of a leader page leaves the same files with the same bytes, each page its place, and each sector its label and true links; the
-/// name of the page can be read if the value says one.
+/// A value of a leader page leaves the same files with the same bytes, each page its place, all parts of a mended pack that were there, and
+/// each sector its label and true links; its name can be read if the value says one.
 pub fn leader_value_leaves()
     ensures { LeaderValueLeaves }
 {}
 
-/// The pages of a pack are mended if no page is carried twice, no label is out of range, each directory ends with its slots, each good
-/// sector is free or in use, sector 1 is SysDir's leader page, each living file has its last page, DiskDescriptor lives with the length of
-/// its format, the links of pages are true, and the name of each living file can be read.
+/// The pages of a pack are mended if it has all parts (`Lasting`, with those before it), the links of pages are true, and the name of each
+/// living file can be read.
 pub fn parts_are_mended()
     ensures { PartsAreMended }
 {}

@@ -14,8 +14,8 @@ pub fn stray_release_tends()
     ensures { StrayReleaseTends }
 {}
 
-/// A release of a page that isn't within its file's end, or of a file without a leader page, keeps at each crash point what a mending keeps,
-/// if no page is carried twice. The end of a directory is that of its slots, and the end of DiskDescriptor that of its format.
+/// On a pack that carries no page twice a release of a page that isn't within its file's end, or of a file without a leader page, keeps at
+/// each crash point what a mending keeps.
 pub fn unused_release_tends()
     ensures { UnusedReleaseTends }
 {}

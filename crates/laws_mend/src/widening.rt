@@ -2,8 +2,8 @@
 
 ghost use Rattle.laws_mend.specs.WidenLaws.{GrowthCanWiden, RootWideningTends, WideningInWords, WideningKeepsPages};
 
-/// A widening of a directory, by a free sector, leaves a pack whose pages are mended so, each page its place, and the bytes of every
-/// other file; one free slot of 256 words comes after the directory's slots.
+/// A widening of a directory, by a free sector, leaves a pack whose pages are mended so, and a tidy one tidy: other pages their places,
+/// files their leaders, other files their bytes, and after the slots, which stand, one free slot of 256 words.
 pub fn widening_keeps_pages()
     ensures { WideningKeepsPages }
 {}

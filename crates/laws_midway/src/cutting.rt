@@ -7,7 +7,8 @@ pub fn whole_file_may_be_cut()
     ensures { WholeFileMayBeCut }
 {}
 
-/// The sectors of a cut are that of the page which becomes the last and those of all later pages, and no others.
+/// On any pack the sectors of a cut are that of the page which becomes the last and those of all later pages, and no others, as `CanCut`
+/// names them.
 pub fn cut_is_of_these_sectors()
     ensures { CutIsOfTheseSectors }
 {}

@@ -17,12 +17,13 @@ pub fn found_file_is_entered()
     ensures { FoundFileIsEntered }
 {}
 
-/// On a tidy pack its file has its name in the model.
+/// On a tidy pack the file of the entry that is meant has the entry's name in the model (`HasName`).
 pub fn found_file_has_its_name()
     ensures { FoundFileHasItsName }
 {}
 
-/// The entry that is meant and the sector of its slot's first word are what a leaving and the last value of a drop want.
+/// On any pack the entry that is meant in a living directory, and the sector of its slot's first word, are what a leaving and the last
+/// value of a drop want (`HasEntry`).
 pub fn found_entry_may_go()
     ensures { FoundEntryMayGo }
 {}

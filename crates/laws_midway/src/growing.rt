@@ -17,12 +17,14 @@ pub fn widen_lengthens()
     ensures { WidenLengthens }
 {}
 
-/// After a growth the old pages are where they were, the new ones in their sectors, and all else is as it was.
+/// On a whole and tidy pack after a growth the file's old pages are where they were, the new ones in the sectors claimed, of which the last
+/// ends it, no other after them, and all other files as they were.
 pub fn file_has_grown()
     ensures { FileHasGrown }
 {}
 
-/// After a widening the old pages are where they were, the new ones in their sectors, and all else is as it was.
+/// On a whole and tidy pack after a widening the directory's old pages are where they were, the new ones in the sectors claimed, of which
+/// the last ends it, no other after them, and all other files as they were.
 pub fn directory_has_grown()
     ensures { DirectoryHasGrown }
 {}

@@ -2,7 +2,7 @@
 
 ghost use Rattle.laws_midway.specs.MadeLaws.{HandyAfterMake};
 
-/// After a make the new file's hints are handy, if the cache lists its pages at their sectors.
+/// On a whole and tidy pack a new file's hints are handy once it is made, if the cache lists its pages at their sectors.
 pub fn handy_after_make()
     ensures { HandyAfterMake }
 {}

@@ -22,7 +22,7 @@ pub fn row_is_short()
     ensures { RowIsShort }
 {}
 
-/// A room for at most 512 words is found if and only if so many words are free in a row.
+/// A room for 1 to 512 words is found if and only if so many words are free in a row.
 pub fn room_is_found_in_a_run()
     ensures { RoomIsFoundInARun }
 {}

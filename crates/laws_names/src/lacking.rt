@@ -2,7 +2,7 @@
 
 ghost use Rattle.laws_names.specs.LackingLaws.{LackingAreAdopted, NextMayBeEntered, NoRoomIsNone, NoneLackingIsNamed, RootWideningLeaves, WidenedHasRoom, WideningHasItsSector};
 
-/// If no entry is lacking, each living file has one.
+/// On a pack whose pages are mended each living file has an entry if none is lacking.
 pub fn none_lacking_is_named()
     ensures { NoneLackingIsNamed }
 {}
@@ -12,27 +12,30 @@ pub fn no_room_is_none()
     ensures { NoRoomIsNone }
 {}
 
-/// If the next entry is placed nowhere, a pack that can be scavenged has a free sector other than sector 1.
+/// On a pack whose pages are mended, and that can be scavenged, a sector other than sector 1 is free if the next entry that is lacking is
+/// placed nowhere.
 pub fn widening_has_its_sector()
     ensures { WideningHasItsSector }
 {}
 
-/// With a page more SysDir has room for each entry of at most 256 words.
+/// On a pack whose pages are mended SysDir has room for each entry of at most 256 words once it got a page more.
 pub fn widened_has_room()
     ensures { WidenedHasRoom }
 {}
 
-/// The next entry that is lacking may be entered: its file lives, it fits, and neither the file nor the name stands anywhere.
+/// On a pack whose pages are mended the next entry that is lacking may be entered: its file lives, it fits, and neither the file nor the
+/// name stands anywhere.
 pub fn next_may_be_entered()
     ensures { NextMayBeEntered }
 {}
 
-/// A page more for SysDir, where the next entry has no room, leaves each entry kept and the same lacking, with room for the next one.
+/// On a tidy pack whose pages are mended a page more for SysDir, where the next entry has no room, keeps, leaves the same lacking and each
+/// entry kept where it stood, and no other sector free; then the next one has room.
 pub fn root_widening_leaves()
     ensures { RootWideningLeaves }
 {}
 
-/// The files among those that are lacking, except the system files, are as many as get a name.
+/// On a pack whose pages are mended the files among those that are lacking, except the system files, are as many as get a name.
 pub fn lacking_are_adopted()
     ensures { LackingAreAdopted }
 {}

@@ -2,12 +2,14 @@
 
 ghost use Rattle.laws_names.specs.WriteLaws.{AddressIsWritten, LooseWordsLeave, NextEntryIsEntered, RoomIsFound, RoomIsMadeOne, RoomWordsLeave, StandingWordsWriteNothing, UnkeptSlotIsFreed, WrittenWordsStand};
 
-/// The first word of the slot of an entry that isn't kept makes it a free one: the pack is read and found as before.
+/// On a pack whose pages are mended the first word by which the slot of an entry that isn't kept is a free one keeps what a mending of
+/// names keeps; the pack is read and found as before.
 pub fn unkept_slot_is_freed()
     ensures { UnkeptSlotIsFreed }
 {}
 
-/// Other words inside free slots, and other addresses of entries, leave the pack as it was read and found, with the same slots.
+/// On a pack whose pages are mended other words inside free slots, and other addresses of entries, keep what a mending of names keeps; the
+/// pack is read and found as before, with the same slots.
 pub fn loose_words_leave()
     ensures { LooseWordsLeave }
 {}
@@ -17,22 +19,26 @@ pub fn room_is_found()
     ensures { RoomIsFound }
 {}
 
-/// The free slots of the room for the next entry are made one: it is its room again, and the same are lacking.
+/// On a tidy pack whose pages are mended the word that makes the free slots of the next entry's room one keeps what a mending of names
+/// keeps; it is its room again, and the same are lacking.
 pub fn room_is_made_one()
     ensures { RoomIsMadeOne }
 {}
 
-/// Words of a free slot after its first one leave the pack as it was read and found, and all entries where they stood.
+/// On a pack whose pages are mended words of a free slot after its first one keep what a mending of names keeps; the pack is read and found
+/// as before, and all entries stand where they stood.
 pub fn room_words_leave()
     ensures { RoomWordsLeave }
 {}
 
-/// The first words of the next entry make it stand in its room, with a true address: the others are lacking.
+/// On a tidy pack whose pages are mended the first words of the next entry, whose others stand in the next page, keep what a mending of
+/// names keeps; it stands with a true address, the others are lacking, and the pack is tidy.
 pub fn next_entry_is_entered()
     ensures { NextEntryIsEntered }
 {}
 
-/// Another address in an entry leaves the pack as it was read and found, and every other slot with its own address.
+/// On a pack whose pages are mended another address in an entry keeps what a mending of names keeps; the pack is read and found as before,
+/// and every other slot has its own address.
 pub fn address_is_written()
     ensures { AddressIsWritten }
 {}

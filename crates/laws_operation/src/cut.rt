@@ -11,8 +11,8 @@ pub fn cut_words_fit()
     ensures { CutWordsFit }
 {}
 
-/// Another label for the page that becomes the last, and then releases of all later pages, are the cut of the file: it takes place
-/// at that label.
+/// On a whole and tidy pack, if `MayCut` holds, another label for the page that becomes the last, and then releases of all later pages,
+/// carry out the cut of the file: it takes place at that label.
 pub fn cut_carries_out()
     ensures { CutCarriesOut }
 {}

@@ -4,18 +4,19 @@ ghost use Rattle.laws_operation.specs.DescriptorLaws.{CloseCarriesOut, OpenCarri
 ghost use Rattle.laws_operation.specs.DescriptorLinkLaws.{CloseKeepsLinks, OpenKeepsLinks, SerialKeepsLinks};
 ghost use Rattle.laws_operation.specs.OnceLaws.{CloseCarriesOnce, OpenCarriesOnce};
 
-/// Opening the mark leaves what is read, a sound pack sound, and a pack that isn't clean.
+/// On a whole and tidy pack opening the mark leaves what is read, a sound pack sound, and a pack that isn't clean.
 pub fn open_carries_out()
     ensures { OpenCarriesOut }
 {}
 
-/// A new serial changes the last serial alone, and nothing that is viewed; a sound pack stays sound, and the mark what it was.
+/// On a whole and tidy pack a new serial, not below the last one, changes the last serial alone, and nothing that is viewed; a sound pack
+/// stays sound, and the mark what it was.
 pub fn serial_carries_out()
     ensures { SerialCarriesOut }
 {}
 
-/// Closing leaves what is read at each crash point, and a sound pack sound; the mark is what it was until the last record write, and clean
-/// after it.
+/// On a whole and tidy pack closing leaves what is read at each crash point, and a sound pack sound; the mark is what it was until the last
+/// record write, and clean after it.
 pub fn close_carries_out()
     ensures { CloseCarriesOut }
 {}

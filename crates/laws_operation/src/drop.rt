@@ -7,18 +7,19 @@ ghost use Rattle.laws_operation.specs.LinkLaws.{ReleaseKeepsLinks};
 ghost use Rattle.laws_operation.specs.NameLinkLaws.{DropKeepsLinks, SlotKeepsLinks};
 ghost use Rattle.laws_operation.specs.OnceLaws.{DropCarriesOnce, ReleaseCarriesOnce};
 
-/// The value that makes an entry's slot a free one is such as the last law of a drop asks for.
+/// If the caller knows `HasEntry`, the value that makes an entry's slot a free one is such as the last law of a drop asks for.
 pub fn slot_words_fit()
     ensures { SlotWordsFit }
 {}
 
-/// The release of a file's leader, and then those of its data pages, are its drop except the slot of its entry: it takes place at
-/// the leader's label.
+/// On a whole and tidy pack, if `MayDrop` holds, the release of a file's leader, and then of its data pages, are its drop except the slot
+/// of its entry, from the leader's label on; the pack is tidy except for that entry.
 pub fn release_carries_out()
     ensures { ReleaseCarriesOut }
 {}
 
-/// The value in which the slot of a file that was dropped is a free one changes nothing that is read.
+/// On a whole pack that is tidy except for the entry of a file that was dropped, the value in which the entry's slot is a free one changes
+/// nothing that is read, and leaves the pack whole and tidy.
 pub fn slot_carries_out()
     ensures { SlotCarriesOut }
 {}

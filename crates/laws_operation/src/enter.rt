@@ -18,8 +18,8 @@ pub fn enter_words_fit()
     ensures { EnterWordsFit }
 {}
 
-/// The value that makes the room's free slots one, where they are several, the value of the next page, where the words lie over a
-/// page's end, and the value with the entry's first words are its entering: it takes place at the last of them.
+/// On a whole and tidy pack, if `MayEnterAt` holds, the value that joins the room's free slots, that of the next page if words come there,
+/// and the one with the entry's first words are the entering: it takes place at the last.
 pub fn enter_carries_out()
     ensures { EnterCarriesOut }
 {}

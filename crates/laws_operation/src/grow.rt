@@ -13,8 +13,8 @@ pub fn grow_words_fit()
     ensures { GrowWordsFit }
 {}
 
-/// New pages, then the old last page's value, its label and its value again are the growth of the file by their bytes: it takes
-/// place at the label.
+/// On a whole and tidy pack, if `MayGrow` holds, new pages, then the old last page's value, its label and its value again carry out the
+/// growth of the file by their bytes: it takes place at the label.
 pub fn grow_carries_out()
     ensures { GrowCarriesOut }
 {}

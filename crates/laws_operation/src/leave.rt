@@ -5,12 +5,13 @@ ghost use Rattle.laws_operation.specs.EntryLaws.{FreeNameIsApartAfterLeave, Leav
 ghost use Rattle.laws_operation.specs.NameLaws.{LeaveCarriesOut};
 ghost use Rattle.laws_operation.specs.NameLinkLaws.{LeaveKeepsLinks};
 
-/// An entry that stands there under the name, and not of a system file, may leave as `MayLeave` asks, which `leave_carries_out` needs.
+/// If the caller knows `HasEntry`, an entry under the name, in whatever case, and not of a system file, may leave as `MayLeave` asks, which
+/// `leave_carries_out` needs.
 pub fn leave_words_fit()
     ensures { LeaveWordsFit }
 {}
 
-/// The value in which an entry's slot is a free one is the leaving of this entry.
+/// On a whole and tidy pack, if `MayLeave` holds, the value in which an entry's slot is a free one carries out the leaving of this entry.
 pub fn leave_carries_out()
     ensures { LeaveCarriesOut }
 {}

@@ -13,8 +13,8 @@ pub fn make_words_fit()
     ensures { MakeWordsFit }
 {}
 
-/// The claim of a new file's first page, and then that of its leader, are the making of the file: it takes place at the leader's
-/// label.
+/// On a whole and tidy pack, if `MayMake` holds, the claim of a new file's first page, and then that of its leader, carry out the making of
+/// the file: it takes place at the leader's label.
 pub fn make_carries_out()
     ensures { MakeCarriesOut }
 {}

@@ -10,12 +10,13 @@ pub fn put_words_fit()
     ensures { PutWordsFit }
 {}
 
-/// On a whole pack the value of a put with which the file ends is so too, also if words past its end come with it.
+/// On a whole pack, if the caller knows `CanPut` and that words past the file's end are there (`ArePastTheEnd`), the value of a put with
+/// which the file ends is as `MayPut` asks, also with these words.
 pub fn put_past_words_fit()
     ensures { PutPastWordsFit }
 {}
 
-/// The value of a page with bytes in the place of others is the put of these bytes.
+/// On a whole and tidy pack, if `MayPut` holds, the value of a page with bytes in the place of others carries out the put of these bytes.
 pub fn put_carries_out()
     ensures { PutCarriesOut }
 {}

@@ -10,7 +10,7 @@ pub fn stamp_words_fit()
     ensures { StampWordsFit }
 {}
 
-/// The value of a leader with another written date in it is the stamp.
+/// On a whole and tidy pack, if `MayWriteLeader` holds, the value of a leader with another written date in it carries out the stamp.
 pub fn stamp_carries_out()
     ensures { StampCarriesOut }
 {}

@@ -9,7 +9,7 @@ pub fn title_words_fit()
     ensures { TitleWordsFit }
 {}
 
-/// The value of a leader with another name in it is the title.
+/// On a whole and tidy pack, if `MayWriteLeader` holds, the value of a leader with another name in it carries out the title.
 pub fn title_carries_out()
     ensures { TitleCarriesOut }
 {}

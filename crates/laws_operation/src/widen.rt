@@ -12,7 +12,8 @@ pub fn widen_words_fit()
     ensures { WidenWordsFit }
 {}
 
-/// A growth of a directory by a free slot of 256 words is its widening: it takes place at the label of the old last page.
+/// On a whole and tidy pack, if `MayWiden` holds, a growth of a directory by a free slot of 256 words carries out its widening: it takes
+/// place at the label of the old last page.
 pub fn widen_carries_out()
     ensures { WidenCarriesOut }
 {}

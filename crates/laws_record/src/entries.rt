@@ -2,8 +2,8 @@
 
 ghost use Rattle.laws_record.specs.EnterLaws.{EntryIsTheStep, NextNameThatSettlingGives};
 
-/// The write of an entry's first words is the operation, where the file lives, the entry fits, and the model has no entry of the file
-/// and none of the name in the directory: afterwards the pack is read as the model with the entry in its room, the one that is found.
+/// On any pack the write of an entry's first words is the entering, if its file lives, it fits, neither file nor name is entered in the
+/// model yet, and the room is the one that is found.
 pub fn entry_is_the_step()
     ensures { EntryIsTheStep }
 {}

@@ -32,7 +32,7 @@ pub fn one_by_one()
     ensures { OneByOne }
 {}
 
-/// The slots of words that begin with some to whose end slots reach: these slots, and those of the words after.
+/// After words that are slots to their end come the slots of the rest: of all these words they are the slots.
 pub fn reads_on()
     ensures { ReadsOn }
 {}

@@ -38,8 +38,8 @@ pub fn leave_is_the_step()
     ensures { LeaveIsTheStep }
 {}
 
-/// The label of a new leader on a free sector makes the file, other than DiskDescriptor, whose first page is claimed and which no entry
-/// names.
+/// On any pack the label of a new leader on a free sector makes the file, other than DiskDescriptor, if its serial is the last one, its
+/// first page is claimed and no entry names it.
 pub fn make_is_the_step()
     ensures { MakeIsTheStep }
 {}

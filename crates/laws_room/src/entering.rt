@@ -3,22 +3,25 @@
 
 ghost use Rattle.laws_room.specs.NextLaws.{FreeSlotsMadeOneKeeps, MoreRoomKeeps, NextEntryKeeps, SlotThatIsNotKeptKeeps};
 
-/// The slot of an entry that isn't kept, both system files taken for living, is made free.
+/// On any pack making free the slot of an entry that isn't kept, both system files taken for living, keeps what a scavenge keeps.
 pub fn slot_that_is_not_kept_keeps()
     ensures { SlotThatIsNotKeptKeeps }
 {}
 
-/// The next entry that is lacking comes in its room in SysDir: then the others are lacking.
+/// On any pack the next entry that is lacking, in its room in SysDir, keeps what a scavenge keeps, if it may be entered; then the others
+/// are lacking.
 pub fn next_entry_keeps()
     ensures { NextEntryKeeps }
 {}
 
-/// Free slots of SysDir are made one, where the next entry is placed as before: the same entries are lacking.
+/// On any pack making free slots of SysDir one keeps what a scavenge keeps, if the next entry that is lacking is placed as before; then the
+/// same entries are lacking.
 pub fn free_slots_made_one_keeps()
     ensures { FreeSlotsMadeOneKeeps }
 {}
 
-/// SysDir gets a free slot of 256 words more, where the next entry has no room: the same entries are lacking.
+/// On any pack a free slot of 256 words more for SysDir, where the next entry that is lacking has no room, keeps what a scavenge keeps;
+/// then the same entries are lacking.
 pub fn more_room_keeps()
     ensures { MoreRoomKeeps }
 {}

@@ -12,7 +12,8 @@ pub fn scavengeable_is_unrefused()
     ensures { ScavengeableIsUnrefused }
 {}
 
-/// The free sectors of a whole pack are the available ones, and as many as its model has room.
+/// On a whole pack the available sectors are the free ones, those in use are the pages of all files, and its model has room for as many
+/// pages as sectors are free.
 pub fn free_is_the_room()
     ensures { FreeIsTheRoom }
 {}

@@ -9,13 +9,14 @@ pub fn use_follows_the_operation()
     ensures { UseFollowsTheOperation }
 {}
 
-/// Each operation may be done on what a whole and tidy pack is read as, wherever its own law names its record writes; and these take
-/// as many sectors into use as it adds pages, and leave as many as it frees.
+/// On a whole and tidy pack each operation may be done if `MayX` of it holds, and its record writes change the sectors in use by the pages
+/// that it adds and frees.
 pub fn each_operation_takes_its_pages()
     ensures { EachOperationTakesItsPages }
 {}
 
-/// A page within its file's end that a scavenge claims takes one available sector, and one that was needed.
+/// On any pack a page within its living file's end, which no sector carries and a scavenge claims on a free sector, takes one available
+/// sector, and one that was needed.
 pub fn claim_takes_an_available_sector()
     ensures { ClaimTakesAnAvailableSector }
 {}

@@ -1,6 +1,5 @@
 pub mod Answering
 pub mod Beginning
-pub mod Blocking
 pub mod Calling
 pub mod Changing
 pub mod Filling
@@ -8,7 +7,6 @@ pub mod Fitting
 pub mod Flushing
 pub mod Holding
 pub mod Leaving
-pub mod Levelling
 pub mod Lining
 pub mod Loading
 pub mod Named
@@ -21,7 +19,6 @@ pub mod Opening
 pub mod Outloading
 pub mod Passing
 pub mod Refusing
-pub mod Remembering
 pub mod Ruling
 pub mod Scavenging
 pub mod Spacious
@@ -29,4 +26,3 @@ pub mod Sparing
 pub mod Standing
 pub mod Streaming
 pub mod Talking
-pub mod Zoning

@@ -10,3 +10,4 @@ pub mod StreamLaws
 pub mod UnrefusedLaws
 pub mod ZoneLaws
 pub use Rattle.session_model
+pub use Rattle.laws_zone

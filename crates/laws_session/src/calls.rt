@@ -13,12 +13,13 @@ pub fn hints_stay_true()
     ensures { HintsStayTrue }
 {}
 
-/// If no turn fails over such calls, no scavenge is needed.
+/// If no turn fails over calls that answer, one after another, no scavenge is needed after them, where none was before.
 pub fn calls_keep_need()
     ensures { CallsKeepNeed }
 {}
 
-/// If links and the table are true as a session begins, no turn fails over such calls.
+/// If links and the table are true as a session begins that needs no scavenge, no turn fails over calls that answer, one after another, on
+/// packs with full values.
 pub fn true_hints_fail_no_call()
     ensures { TrueHintsFailNoCall }
 {}
@@ -33,7 +34,7 @@ pub fn refusals_name_no_hint()
     ensures { RefusalsNameNoHint }
 {}
 
-/// An answer that names a hint is that of a turn that failed: the hint misled, and a scavenge is needed then.
+/// Over calls that answer, an answer that names a hint is that of a turn that failed: the hint misled, and a scavenge is needed then.
 pub fn answers_name_a_failed_hint()
     ensures { AnswersNameAFailedHint }
 {}

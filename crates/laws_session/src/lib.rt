@@ -9,10 +9,10 @@
 //! order, to what it is refused for.
 //!
 //! Open streams are over ordinary files of their own, in which their pending bytes begin, and stay so over each line. Over calls one after
-//! another what is kept stays right, and true hints stay true until all are true at the end. The zone of a world reads back from the words
-//! of its memory.
+//! another what is kept stays right, and true hints stay true until all are true at the end. A world has a memory of its level, and keeps one
+//! over each line; what becomes of its blocks is said in laws_zone.
 //!
-//! Below it stand session_model, laws_lookup and laws_line.
+//! Below it stand session_model, laws_zone, laws_lookup and laws_line.
 //!
 //! A law function is public, has an empty body and one clause, the law; its lemma has the same name, and its statement has it in
 //! capitals. To cite a law: `use Rattle.laws_session.proofs.histories.Laws.{crashes_of_a_history}`. Lemma files in proofs/inside/ no other

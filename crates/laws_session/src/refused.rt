@@ -8,12 +8,12 @@ pub fn refused_in_order()
     ensures { RefusedInOrder }
 {}
 
-/// If none of the others holds, it is refused for the first of these tests that holds, or not at all.
+/// If a line is taken up, and of its other tests none holds, it is refused for the first of some tests that holds, or not at all.
 pub fn refused_by_tests()
     ensures { RefusedByTests }
 {}
 
-/// If none of the tests before that of the room holds, it is refused for want of room, or not at all.
+/// If a line is taken up, and none of its tests before that of the room holds, it is refused for room, or not at all.
 pub fn refused_for_room()
     ensures { RefusedForRoom }
 {}

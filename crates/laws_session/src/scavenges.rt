@@ -27,7 +27,7 @@ pub fn scavenges_break_off()
     ensures { ScavengesBreakOff }
 {}
 
-/// After a scavenge no file is lost, no hint misleads, and no scavenge is needed.
+/// After a scavenge that is asked for and not refused no file is lost, no hint misleads, and no scavenge is needed.
 pub fn scavenges_cure()
     ensures { ScavengesCure }
 {}

@@ -9,7 +9,8 @@ pub fn stream_line_may_begin()
     ensures { StreamLineMayBegin }
 {}
 
-/// The last operations of a session, by which its streams are closed, are such a line too.
+/// If the pending bytes of each stream begin within its file, and each has a file of its own, the last operations of a session, by which
+/// its streams are closed, are a line as the laws of lines know them.
 pub fn ending_is_a_line()
     ensures { EndingIsALine }
 {}

@@ -17,12 +17,14 @@ pub fn append_may_begin()
     ensures { AppendMayBegin }
 {}
 
-/// If a `patch` isn't refused on a sound pack, it is such a line, and puts its bytes within the file.
+/// If a `patch` isn't refused on a sound pack, it is of a living ordinary file, puts its bytes within it, and is a line as the laws of
+/// lines know them.
 pub fn patch_may_begin()
     ensures { PatchMayBegin }
 {}
 
-/// If a `cut` isn't refused on a sound pack, it is such a line, and keeps no more bytes than there are.
+/// If a `cut` isn't refused on a sound pack, it is of a living ordinary file, keeps no more bytes than there are, and is a line as the laws
+/// of lines know them.
 pub fn cut_may_begin()
     ensures { CutMayBegin }
 {}
@@ -42,7 +44,8 @@ pub fn make_may_begin()
     ensures { MakeMayBegin }
 {}
 
-/// If a `copy` isn't refused on a sound pack, it makes such a file, from a living ordinary one.
+/// If a `copy` isn't refused on a sound pack, it is of a living ordinary file, and makes one with the next full name, which no living file
+/// has, under a name that its directory takes.
 pub fn copy_may_begin()
     ensures { CopyMayBegin }
 {}
@@ -52,7 +55,8 @@ pub fn make_dir_may_begin()
     ensures { MakeDirMayBegin }
 {}
 
-/// If an `outload` isn't refused on a sound pack, it writes the world over a living ordinary file, or makes one, and is such a line.
+/// If an `outload` of a world with a memory isn't refused on a sound pack, it is a line: over a living ordinary file, without a byte or as
+/// long as a world's, or into a new one where the path means none.
 pub fn outload_may_begin()
     ensures { OutLoadMayBegin }
 {}

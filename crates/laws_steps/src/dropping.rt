@@ -2,12 +2,14 @@
 
 ghost use Rattle.laws_steps.specs.DroppingLaws.{DropIsJoined, ReleasesLeaveTheEntry};
 
-/// Between the two calls the entry stands in its directory still, and all other files that were found are found.
+/// On a whole and tidy pack, after the releases of a file that may be dropped, the pack is whole, its entry stands in its directory with
+/// the same slots, and all other files that were found are found.
 pub fn releases_leave_the_entry()
     ensures { ReleasesLeaveTheEntry }
 {}
 
-/// Both calls are one operation of a line, also where one of them breaks off.
+/// On a whole and tidy pack the releases of a file that may be dropped, and then the value that frees its entry's slot, are one drop in a
+/// line, also where one of the two calls breaks off (`DropJoins`).
 pub fn drop_is_joined<T, U, E, F>()
     ensures { DropIsJoined T U E F }
 {}

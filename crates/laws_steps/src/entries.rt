@@ -7,7 +7,7 @@ pub fn entered_is_meant()
     ensures { EnteredIsMeant }
 {}
 
-/// It is so after an operation on bytes or a leader, and after a widening.
+/// On any model the first entry under a name is so still after an operation on bytes or a leader, and after a widening.
 pub fn entered_stays()
     ensures { EnteredStays }
 {}

@@ -2,23 +2,23 @@
 
 ghost use Rattle.laws_steps.specs.KeepingLaws.{DescriptorKeepsFound, OpeningKeepsFound, SerialKeepsFound, WrittenKeepsFound};
 
-/// A file that was found stays found over all record writes of an operation that isn't its drop and doesn't take out the entry by which it
-/// was found: one that was found by a held address stays found over the leaving of its own entry.
+/// On a whole and tidy pack a file that was found stays found over what is `Written` of an operation that isn't its drop and doesn't take
+/// out the entry by which it was found, which a file found by a held address doesn't need.
 pub fn written_keeps_found()
     ensures { WrittenKeepsFound }
 {}
 
-/// A file that was found stays found over a value of DiskDescriptor.
+/// On a whole pack a file that was found stays found over a value of a page of DiskDescriptor that leaves the pack whole.
 pub fn descriptor_keeps_found()
     ensures { DescriptorKeepsFound }
 {}
 
-/// A file that was found stays found while the mark is opened.
+/// On a whole and tidy pack a file that was found stays found while the mark is opened.
 pub fn opening_keeps_found()
     ensures { OpeningKeepsFound }
 {}
 
-/// A file that was found stays found over a new serial.
+/// On a whole and tidy pack a file that was found stays found over a new serial.
 pub fn serial_keeps_found()
     ensures { SerialKeepsFound }
 {}

@@ -32,17 +32,19 @@ pub fn later_keeps_found()
     ensures { LaterKeepsFound }
 {}
 
-/// Files stay found over calls and what is written of one more operation, whichever calls write it.
+/// Files stay found over calls that did operations on a whole, tidy and unmarked pack, and then over what is `Written` of one more
+/// operation, whichever calls write it.
 pub fn written_keeps_found_over<U, F>()
     ensures { WrittenKeepsFoundOver U F }
 {}
 
-/// Files stay found over calls and one more call, at Ok.
+/// Files stay found over calls that did operations on a whole, tidy and unmarked pack, and over one more call that is to do one, at Ok.
 pub fn call_keeps_found<T, U, E, F>()
     ensures { CallKeepsFound T U E F }
 {}
 
-/// Files stay found over calls, a new serial and its make, at Ok.
+/// Files stay found over calls that did operations on a whole, tidy and unmarked pack, and then over a new serial and the call that is to
+/// do its make, at Ok.
 pub fn serial_and_make_keep_found<T, U, E, F>()
     ensures { SerialAndMakeKeepFound T U E F }
 {}

@@ -28,7 +28,7 @@ pub fn tally_in_numbers()
     ensures { TallyInNumbers }
 {}
 
-/// A machine's count of record writes, which stands still at its end, may stand for their number.
+/// A machine's count of record writes, which stands still at its end, may stand for their number where a tally is told in numbers.
 pub fn tally_by_the_count()
     ensures { TallyByTheCount }
 {}

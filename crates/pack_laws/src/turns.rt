@@ -89,7 +89,7 @@ pub fn acknowledged_are_done<X: Moves>()
     ensures { AcknowledgedAreDone X.means }
 {}
 
-/// Each record write of some turns makes the next one of their moves.
+/// Each record write of some turns makes the next one of their moves, and no other move is made.
 pub fn writes_are_made<X: Moves>()
     ensures { WritesAreMade X.means }
 {}

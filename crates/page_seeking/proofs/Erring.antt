@@ -63,15 +63,9 @@ pub on_ok_map : {T E P Q : Type 0} (result : Result T E) → (P → Q) → OnOk 
 on_ok_map (Ok x) f p = f p
 on_ok_map (Err e) f p = tt
 
--- an error that is a fault only if the count rose has its cause
-pub caused : (T : Type 0) (a b : Taped) (error : FileError) → (IsErrOf {T = T} (Err error) DiskFault → Rose a.disk_faults b.disk_faults) → IsCause a b (cause_of_file error)
-caused T a b (Misled place at wanted found) h = tt
-caused T a b (Beyond length) h = tt
-caused T a b DiskFault h = h refl
-caused T a b Memory h = tt
-
-pub caused_length : (T : Type 0) (a b : Taped) (error : FileError) → (IsErrOf {T = T} (Err error) DiskFault → Rose a.disk_faults b.disk_faults) → IfBeyond {T = T} (Err error) (λ n. ⊥) → IsCause a b (cause_of_length error)
-caused_length T a b (Misled place at wanted found) h never = tt
+-- the cause of a call that never answers Beyond
+pub caused_length : (T : Type 0) (a b : Taped) (error : FileError) → IsCause a b (cause_of_file error) → IfBeyond {T = T} (Err error) (λ n. ⊥) → IsCause a b (cause_of_length error)
+caused_length T a b (Misled place at wanted found) h never = h
 caused_length T a b (Beyond length) h never = never
-caused_length T a b DiskFault h never = h refl
-caused_length T a b Memory h never = tt
+caused_length T a b DiskFault h never = h
+caused_length T a b Memory h never = h

@@ -2,18 +2,19 @@
 ghost use Rattle.std.specs.Prelude.{◌≡◌, ◌≢◌, ◌⊎◌, ◌+◌, ◌-◌, ◌*◌, ◌<◌, ◌≤◌, ℕ, Some, IsTrue, IsErrOf, IfOk, OnOk, []};
 ghost use Rattle.disk_records.specs.Causes.{HasCause};
 ghost use Rattle.disk_records.specs.Packs.{carried};
-ghost use Rattle.disk_records.specs.Tapes.{Looks, Rose, pack};
+ghost use Rattle.disk_records.specs.Tapes.{Looks, pack};
 ghost use Rattle.disk_records.specs.Words.{word};
 ghost use Rattle.pack_model.specs.hints.Handy.{last_number_word, leader_word};
 ghost use Rattle.pack_model.specs.hints.Links.{LinksTrue};
 ghost use Rattle.pack_model.specs.reading.Sights.{sights};
 ghost use Rattle.pack_model.specs.states.Sentences.{EachOnce};
 ghost use Rattle.pack_model.specs.states.Whole.{Whole};
-ghost use Rattle.page_seeking.specs.Causes.{cause_of_length};
+ghost use Rattle.page_seeking.specs.Causes.{cause_of_file, cause_of_length};
 ghost use Rattle.page_seeking.specs.Parts.{ListsLast};
 ghost use Rattle.page_seeking.specs.Refs.{FileIsFrom, FileStands, IfMisled, IfBeyond, IsOwnHint, IsOwnLink, MisledBy};
 ghost use Rattle.page_seeking.specs.Seeking.{EndsAtPage, IsLast, KeepsHandy, LastNamed, Lists, NamedNearEnd, Quick, QuickCache, Seen, Stands, file_length, page_number};
 ghost use Rattle.page_seeking.specs.Inside.{Confirmed, Known, NamesEnd, Sought, StaysAt};
+ghost use Rattle.label_check.specs.Causes.{cause_of_look};
 
 use crate::leader::{last_address, last_number, locate_leader};
 use crate::links::{Below, follow, goes_on, length_at};
@@ -48,7 +49,7 @@ fn climb_to_end<D: Disk>(
     ensures ends { IfOk result (λ last. EndsAtPage last.number last.found.info.bytes) }
     ensures found { IfOk result (λ last. StaysAt below buf.old cache.old last buf.new cache.new ⊎ Confirmed D.told (page_number fid last.number) (D.tape disk.old) cache.old cache.new buf.new last.found) }
     ensures known { IsTrue D.told → Known D.told (pack (D.tape disk.old)) (D.tape disk.old).form (page_number fid below.number) below.found → IfOk result (λ last. Known D.told (pack (D.tape disk.old)) (D.tape disk.old).form (page_number fid last.number) last.found) }
-    ensures fault { IsErrOf result FileError.DiskFault → Rose (D.tape disk.old).disk_faults (D.tape disk.new).disk_faults }
+    ensures cause { HasCause cause_of_file (D.tape disk.old) (D.tape disk.new) result }
     ensures want { IsTrue D.told → IsErrOf result FileError.Memory → ⊥ }
     ensures misled { IsTrue D.told → Known D.told (pack (D.tape disk.old)) (D.tape disk.old).form (page_number fid below.number) below.found → IfMisled result (MisledBy (pack (D.tape disk.old)) [] fid) }
     ensures never_beyond { IfBeyond result (λ length. ⊥) }
@@ -86,7 +87,7 @@ fn near_end<D: Disk>(
     ensures sought { Sought D.told 49 (D.tape disk.old) (D.tape disk.new) cache.old cache.new }
     ensures found { IfOk result (λ below. 1 ≤ below.number → Confirmed D.told (page_number fid below.number) (D.tape disk.old) cache.old cache.new buf.new below.found) }
     ensures known { IsTrue D.told → Known D.told (pack (D.tape disk.old)) (D.tape disk.old).form (page_number fid 0) leader → IfOk result (λ below. Known D.told (pack (D.tape disk.old)) (D.tape disk.old).form (page_number fid below.number) below.found) }
-    ensures fault { IsErrOf result LookError.DiskFault → Rose (D.tape disk.old).disk_faults (D.tape disk.new).disk_faults }
+    ensures cause { HasCause cause_of_look (D.tape disk.old) (D.tape disk.new) result }
     ensures want { IsTrue D.told → IsErrOf result LookError.Memory → ⊥ }
     ensures quick { (n : ℕ) → IsTrue D.told → NamesEnd (pack (D.tape disk.old)) fid buf.old n → IfOk result (λ below. (below.number ≡ n) × ((D.tape disk.new).runs ≤ (D.tape disk.old).runs + 1)) }
 {
@@ -112,7 +113,7 @@ pub(crate) fn seek_last<D: Disk>(
     ensures sought { Sought D.told 65586 (D.tape disk.old) (D.tape disk.new) cache.old cache.new }
     ensures ends { IfOk result (λ last. EndsAtPage last.number last.found.info.bytes) }
     ensures found { IfOk result (λ last. Confirmed D.told (page_number file.now.fid last.number) (D.tape disk.old) cache.old cache.new buf.new last.found) }
-    ensures fault { IsErrOf result FileError.DiskFault → Rose (D.tape disk.old).disk_faults (D.tape disk.new).disk_faults }
+    ensures cause { HasCause cause_of_file (D.tape disk.old) (D.tape disk.new) result }
     ensures want { IsTrue D.told → IsErrOf result FileError.Memory → ⊥ }
     ensures misled { IsTrue D.told → FileIsFrom (pack (D.tape disk.old)) file.now → IfMisled result (MisledBy (pack (D.tape disk.old)) [] file.now.fid) }
     ensures never_beyond { IfBeyond result (λ length. ⊥) }

@@ -1,6 +1,6 @@
 // The leader page of a file, and what it says of where pages are.
 ghost use Rattle.std.specs.Prelude.{◌≡◌, ◌≢◌, ◌+◌, ◌≤◌, ℕ, Some, IsTrue, IsErrOf, IfOk, [], ◌<◌};
-ghost use Rattle.disk_records.specs.Tapes.{Rose, pack};
+ghost use Rattle.disk_records.specs.Tapes.{pack};
 ghost use Rattle.disk_records.specs.Packs.{carried};
 ghost use Rattle.disk_records.specs.Words.{word};
 ghost use Rattle.hint_cache.specs.Caches.{address_in};
@@ -8,6 +8,9 @@ ghost use Rattle.pack_model.specs.hints.Handy.{last_at_word, last_number_word};
 ghost use Rattle.pack_model.specs.hints.Misled.{IsOnDisk, leader_page};
 ghost use Rattle.page_seeking.specs.Refs.{FileIsFrom, FileIsRooted, IfMisled, IfBeyond, MisledBy, IsOwnAddress};
 ghost use Rattle.page_seeking.specs.Inside.{Sought, Confirmed, IfFound, IfMissed, EndsAt, Finds, IsNoneOr, LeadsTo, LiesAt};
+ghost use Rattle.disk_records.specs.Causes.{HasCause};
+ghost use Rattle.label_check.specs.Causes.{cause_of_look};
+ghost use Rattle.page_seeking.specs.Causes.{cause_of_file};
 
 use crate::look::look_at;
 use crate::notes::note_seen;
@@ -35,7 +38,7 @@ fn look_at_leader<D: Disk>(
 ) -> Result<Found, FileError>
     ensures sought { Sought D.told 1 (D.tape disk.old) (D.tape disk.new) cache.old cache.new }
     ensures found { IfOk result (Confirmed D.told (leader_page file.now.fid) (D.tape disk.old) cache.old cache.new buf.new) }
-    ensures fault { IsErrOf result FileError.DiskFault → Rose (D.tape disk.old).disk_faults (D.tape disk.new).disk_faults }
+    ensures cause { HasCause cause_of_file (D.tape disk.old) (D.tape disk.new) result }
     ensures want { IsTrue D.told → IsErrOf result FileError.Memory → ⊥ }
     ensures misled { IsTrue D.told → FileIsFrom (pack (D.tape disk.old)) file.now → IfMisled result (MisledBy (pack (D.tape disk.old)) [] file.now.fid) }
     ensures on_disk { IsTrue D.told → FileIsRooted (pack (D.tape disk.old)) file.now → IfMisled result (λ place at wanted found. IsOnDisk place) }
@@ -67,7 +70,7 @@ pub(crate) fn locate_leader<D: Disk>(
 ) -> Result<Found, FileError>
     ensures sought { Sought D.told 2 (D.tape disk.old) (D.tape disk.new) cache.old cache.new }
     ensures found { IfOk result (Confirmed D.told (leader_page file.now.fid) (D.tape disk.old) cache.old cache.new buf.new) }
-    ensures fault { IsErrOf result FileError.DiskFault → Rose (D.tape disk.old).disk_faults (D.tape disk.new).disk_faults }
+    ensures cause { HasCause cause_of_file (D.tape disk.old) (D.tape disk.new) result }
     ensures want { IsTrue D.told → IsErrOf result FileError.Memory → ⊥ }
     ensures misled { IsTrue D.told → FileIsFrom (pack (D.tape disk.old)) file.now → IfMisled result (MisledBy (pack (D.tape disk.old)) [] file.now.fid) }
     ensures on_disk { IsTrue D.told → FileIsRooted (pack (D.tape disk.old)) file.now → IfMisled result (λ place at wanted found. IsOnDisk place) }
@@ -97,7 +100,7 @@ pub(crate) fn try_leader_hints<D: Disk>(
 ) -> Result<Option<Found>, LookError>
     ensures sought { Sought D.told 2 (D.tape disk.old) (D.tape disk.new) cache.old cache.new }
     ensures found { IfFound result (Confirmed D.told page (D.tape disk.old) cache.old cache.new buf.new) }
-    ensures fault { IsErrOf result LookError.DiskFault → Rose (D.tape disk.old).disk_faults (D.tape disk.new).disk_faults }
+    ensures cause { HasCause cause_of_look (D.tape disk.old) (D.tape disk.new) result }
     ensures want { IsTrue D.told → IsErrOf result LookError.Memory → ⊥ }
     ensures quick { (at : ℕ) → IsTrue D.told → carried (pack (D.tape disk.old)) at ≡ Some page → LeadsTo buf.old leader_at page.number at → (D.tape disk.new).runs ≤ (D.tape disk.old).runs + 1 }
     ensures passed { (at : ℕ) → IsTrue D.told → carried (pack (D.tape disk.old)) at ≡ Some page → LeadsTo buf.old leader_at page.number at → IfMissed result ((D.tape disk.new).runs ≤ (D.tape disk.old).runs) }

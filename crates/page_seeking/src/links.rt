@@ -1,10 +1,12 @@
 // Following next links upward.
 ghost use Rattle.std.specs.Prelude.{◌≡◌, ◌≢◌, ◌⊎◌, true, false, ◌+◌, ◌-◌, ◌<◌, ◌≤◌, IsTrue, IsErrOf, IfOk, OnOk, []};
-ghost use Rattle.disk_records.specs.Tapes.{Rose, pack};
+ghost use Rattle.disk_records.specs.Tapes.{pack};
 ghost use Rattle.pack_model.specs.hints.Misled.{IsOnDisk};
 ghost use Rattle.page_seeking.specs.Refs.{IfMisled, IfBeyond, MisledBy, IsOwnLink};
 ghost use Rattle.page_seeking.specs.Seeking.{IsEnd, IsFull, length_at, page_after, page_number};
 ghost use Rattle.page_seeking.specs.Inside.{Sought, Confirmed, KeepsRecent, Known};
+ghost use Rattle.disk_records.specs.Causes.{HasCause};
+ghost use Rattle.page_seeking.specs.Causes.{cause_of_file};
 
 use crate::FileError;
 use crate::look::look_at;
@@ -27,7 +29,7 @@ pub(crate) fn follow<D: Disk>(
     requires more { page.number < 65535 }
     ensures sought { Sought D.told 1 (D.tape disk.old) (D.tape disk.new) cache.old cache.new }
     ensures found { IfOk result (Confirmed D.told (page_after page) (D.tape disk.old) cache.old cache.new buf.new) }
-    ensures fault { IsErrOf result FileError.DiskFault → Rose (D.tape disk.old).disk_faults (D.tape disk.new).disk_faults }
+    ensures cause { HasCause cause_of_file (D.tape disk.old) (D.tape disk.new) result }
     ensures want { IsTrue D.told → IsErrOf result FileError.Memory → ⊥ }
     ensures misled { IsTrue D.told → Known D.told (pack (D.tape disk.old)) (D.tape disk.old).form page here → IsFull page here.info.bytes → IfMisled result (MisledBy (pack (D.tape disk.old)) [] page.fid) }
     ensures on_disk { IfMisled result (λ place at wanted found. IsOnDisk place) }
@@ -86,7 +88,7 @@ pub(crate) fn climb<D: Disk>(
     requires upward { below.number < number }
     ensures sought { Sought D.told (number - below.number) (D.tape disk.old) (D.tape disk.new) cache.old cache.new }
     ensures found { IfOk result (Confirmed D.told (page_number fid number) (D.tape disk.old) cache.old cache.new buf.new) }
-    ensures fault { IsErrOf result FileError.DiskFault → Rose (D.tape disk.old).disk_faults (D.tape disk.new).disk_faults }
+    ensures cause { HasCause cause_of_file (D.tape disk.old) (D.tape disk.new) result }
     ensures want { IsTrue D.told → IsErrOf result FileError.Memory → ⊥ }
     ensures misled { IsTrue D.told → Known D.told (pack (D.tape disk.old)) (D.tape disk.old).form (page_number fid below.number) below.found → IfMisled result (MisledBy (pack (D.tape disk.old)) [] fid) }
     ensures on_disk { IfMisled result (λ place at wanted found. IsOnDisk place) }

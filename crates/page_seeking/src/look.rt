@@ -1,8 +1,10 @@
 // Reading a page at an address that may be no sector's.
 ghost use Rattle.std.specs.Prelude.{◌≡◌, IsTrue, IsErrOf, IfOk, OnOk, []};
-ghost use Rattle.disk_records.specs.Tapes.{Looks, Rose, pack};
+ghost use Rattle.disk_records.specs.Tapes.{Looks, pack};
 ghost use Rattle.label_check.specs.Guarded.{Carries, FoundWrong, IfWrong};
 ghost use Rattle.page_seeking.specs.Seeking.{Seen, Stands};
+ghost use Rattle.disk_records.specs.Causes.{HasCause};
+ghost use Rattle.label_check.specs.Causes.{cause_of_guard};
 
 use disk_records::{Disk, Page, Sector};
 use label_check::{GuardError, PageInfo, read_page};
@@ -18,7 +20,7 @@ pub(crate) fn look_at<D: Disk>(
     ensures seen { IfOk result (λ info. Seen (D.tape disk.old).form page at info buf.new) }
     ensures stands { IsTrue D.told → OnOk result (Stands (pack (D.tape disk.old)) page at buf.new) }
     ensures wrong { IsTrue D.told → IfWrong result (FoundWrong (Carries at page) at (D.tape disk.old) (D.tape disk.new)) }
-    ensures fault { IsErrOf result GuardError.DiskFault → Rose (D.tape disk.old).disk_faults (D.tape disk.new).disk_faults }
+    ensures cause { HasCause cause_of_guard (D.tape disk.old) (D.tape disk.new) result }
     ensures want { IsTrue D.told → IsErrOf result GuardError.Memory → ⊥ }
     ensures looks { Looks D.told 1 (D.tape disk.old) (D.tape disk.new) }
 {

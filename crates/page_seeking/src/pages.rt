@@ -2,7 +2,7 @@
 ghost use Rattle.std.specs.Prelude.{◌≡◌, ℕ, ◌+◌, ◌-◌, ◌<◌, ◌≤◌, IsTrue, IsErrOf, IfOk, OnOk, Some, []};
 ghost use Rattle.disk_records.specs.Causes.{HasCause};
 ghost use Rattle.disk_records.specs.Packs.{carried};
-ghost use Rattle.disk_records.specs.Tapes.{Looks, Rose, pack};
+ghost use Rattle.disk_records.specs.Tapes.{Looks, pack};
 ghost use Rattle.hint_cache.specs.Caches.{address_in};
 ghost use Rattle.pack_model.specs.hints.Misled.{IsOnDisk};
 ghost use Rattle.pack_model.specs.states.Whole.{Whole};
@@ -11,6 +11,7 @@ ghost use Rattle.page_seeking.specs.Refs.{FileIsFrom, FileIsRooted, IfMisled, If
 ghost use Rattle.pack_model.specs.hints.Links.{LinksTrue};
 ghost use Rattle.page_seeking.specs.Seeking.{Seen, Stands, Lists, KeepsHandy, Quick, QuickCache, IsEnd, IsLengthBelow, page_number};
 ghost use Rattle.page_seeking.specs.Inside.{Sought, Confirmed, Known, Eases, Finds};
+ghost use Rattle.label_check.specs.Causes.{cause_of_look};
 
 use crate::leader::{locate_leader, try_leader_hints};
 use crate::links::{Below, climb};
@@ -34,7 +35,7 @@ pub(crate) fn nearest_below<D: Disk>(
     ensures lower { IfOk result (λ below. below.number < page.number) }
     ensures found { IfOk result (λ below. 1 ≤ below.number → Confirmed D.told (page_number page.fid below.number) (D.tape disk.old) cache.old cache.new buf.new below.found) }
     ensures known { IsTrue D.told → Known D.told (pack (D.tape disk.old)) (D.tape disk.old).form (page_number page.fid 0) leader → IfOk result (λ below. Known D.told (pack (D.tape disk.old)) (D.tape disk.old).form (page_number page.fid below.number) below.found) }
-    ensures fault { IsErrOf result LookError.DiskFault → Rose (D.tape disk.old).disk_faults (D.tape disk.new).disk_faults }
+    ensures cause { HasCause cause_of_look (D.tape disk.old) (D.tape disk.new) result }
     ensures want { IsTrue D.told → IsErrOf result LookError.Memory → ⊥ }
     ensures quick { (at : ℕ) → IsTrue D.told → Eases (pack (D.tape disk.old)) page.fid page.number at cache.old → IfOk result (λ below. (D.tape disk.new).runs + (page.number - below.number) ≤ (D.tape disk.old).runs + page.number) }
 {
@@ -71,7 +72,7 @@ fn seek_from_leader<D: Disk>(
     requires first { 1 ≤ number }
     ensures sought { Sought D.told (number + 52) (D.tape disk.old) (D.tape disk.new) cache.old cache.new }
     ensures found { IfOk result (Confirmed D.told (page_number file.now.fid number) (D.tape disk.old) cache.old cache.new buf.new) }
-    ensures fault { IsErrOf result FileError.DiskFault → Rose (D.tape disk.old).disk_faults (D.tape disk.new).disk_faults }
+    ensures cause { HasCause cause_of_file (D.tape disk.old) (D.tape disk.new) result }
     ensures want { IsTrue D.told → IsErrOf result FileError.Memory → ⊥ }
     ensures misled { IsTrue D.told → FileIsFrom (pack (D.tape disk.old)) file.now → IfMisled result (MisledBy (pack (D.tape disk.old)) [] file.now.fid) }
     ensures on_disk { IsTrue D.told → FileIsRooted (pack (D.tape disk.old)) file.now → IfMisled result (λ place at wanted found. IsOnDisk place) }
@@ -104,7 +105,7 @@ pub(crate) fn seek_page<D: Disk>(
 ) -> Result<Found, FileError>
     ensures sought { Sought D.told (number + 53) (D.tape disk.old) (D.tape disk.new) cache.old cache.new }
     ensures found { IfOk result (Confirmed D.told (page_number file.now.fid number) (D.tape disk.old) cache.old cache.new buf.new) }
-    ensures fault { IsErrOf result FileError.DiskFault → Rose (D.tape disk.old).disk_faults (D.tape disk.new).disk_faults }
+    ensures cause { HasCause cause_of_file (D.tape disk.old) (D.tape disk.new) result }
     ensures want { IsTrue D.told → IsErrOf result FileError.Memory → ⊥ }
     ensures misled { IsTrue D.told → FileIsFrom (pack (D.tape disk.old)) file.now → IfMisled result (MisledBy (pack (D.tape disk.old)) [] file.now.fid) }
     ensures on_disk { IsTrue D.told → FileIsRooted (pack (D.tape disk.old)) file.now → IfMisled result (λ place at wanted found. IsOnDisk place) }

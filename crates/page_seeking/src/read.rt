@@ -3,7 +3,7 @@ ghost use Rattle.std.specs.Prelude.{◌≡◌, ◌≢◌, ◌+◌, ◌-◌, ◌*
 ghost use Rattle.disk_records.specs.Bytes.{bytes_of, put_at};
 ghost use Rattle.disk_records.specs.Causes.{HasCause};
 ghost use Rattle.disk_records.specs.Packs.{carried};
-ghost use Rattle.disk_records.specs.Tapes.{Looks, Rose, pack};
+ghost use Rattle.disk_records.specs.Tapes.{Looks, pack};
 ghost use Rattle.hint_cache.specs.Caches.{address_in};
 ghost use Rattle.laws_contents.specs.PageLaws.{FullBefore};
 ghost use Rattle.pack_model.specs.hints.Links.{LinksTrue};
@@ -85,7 +85,7 @@ fn read_on<D: Disk>(
     requires placed { (front ≡ length out.old) ⊎ (offset + front ≡ 512 * (below.number - 1) + below.found.info.bytes) }
     requires upto { offset + front ≤ 512 * (below.number - 1) + below.found.info.bytes }
     ensures sought { Sought D.told (65535 - below.number) (D.tape disk.old) (D.tape disk.new) cache.old cache.new }
-    ensures fault { IsErrOf result FileError.DiskFault → Rose (D.tape disk.old).disk_faults (D.tape disk.new).disk_faults }
+    ensures cause { HasCause cause_of_file (D.tape disk.old) (D.tape disk.new) result }
     ensures want { IsTrue D.told → IsErrOf result FileError.Memory → ⊥ }
     ensures misled { IsTrue D.told → Known D.told (pack (D.tape disk.old)) (D.tape disk.old).form (page_number fid below.number) below.found → IfMisled result (MisledBy (pack (D.tape disk.old)) [] fid) }
     ensures link { IfMisled result (λ place at wanted found. IsOwnLink fid place wanted) }
@@ -125,7 +125,7 @@ fn read_pages<D: Disk>(
     buf: &mut Sector,
 ) -> Result<usize, FileError>
     ensures sought { Sought D.told 65588 (D.tape disk.old) (D.tape disk.new) cache.old cache.new }
-    ensures fault { IsErrOf result FileError.DiskFault → Rose (D.tape disk.old).disk_faults (D.tape disk.new).disk_faults }
+    ensures cause { HasCause cause_of_file (D.tape disk.old) (D.tape disk.new) result }
     ensures want { IsTrue D.told → IsErrOf result FileError.Memory → ⊥ }
     ensures misled { IsTrue D.told → FileIsFrom (pack (D.tape disk.old)) file.now → IfMisled result (MisledBy (pack (D.tape disk.old)) [] file.now.fid) }
     ensures hint { IfMisled result (IsOwnHint file.now) }

@@ -1,9 +1,11 @@
 // Pages that are sought by hints which are passed over where the label disagrees.
 ghost use Rattle.std.specs.Prelude.{◌≡◌, ◌+◌, ◌≤◌, ℕ, IsTrue, IsErrOf, None, Some};
 ghost use Rattle.disk_records.specs.Packs.{carried};
-ghost use Rattle.disk_records.specs.Tapes.{Rose, pack};
+ghost use Rattle.disk_records.specs.Tapes.{pack};
 ghost use Rattle.hint_cache.specs.Caches.{address_in};
 ghost use Rattle.page_seeking.specs.Inside.{Sought, Confirmed, IfFound, IfMissed};
+ghost use Rattle.disk_records.specs.Causes.{HasCause};
+ghost use Rattle.label_check.specs.Causes.{cause_of_look};
 
 use crate::look::look_at;
 use crate::notes::note_seen;
@@ -28,7 +30,7 @@ pub(crate) fn try_at<D: Disk>(
 ) -> Result<Option<Found>, LookError>
     ensures sought { Sought D.told 1 (D.tape disk.old) (D.tape disk.new) cache.old cache.new }
     ensures found { IfFound result (Confirmed D.told page (D.tape disk.old) cache.old cache.new buf.new) }
-    ensures fault { IsErrOf result LookError.DiskFault → Rose (D.tape disk.old).disk_faults (D.tape disk.new).disk_faults }
+    ensures cause { HasCause cause_of_look (D.tape disk.old) (D.tape disk.new) result }
     ensures want { IsTrue D.told → IsErrOf result LookError.Memory → ⊥ }
     ensures missed { IfMissed result (cache.new ≡ cache.old) }
     ensures here { IsTrue D.told → carried (pack (D.tape disk.old)) at ≡ Some page → IfMissed result ⊥ }
@@ -54,7 +56,7 @@ pub(crate) fn try_cached<D: Disk>(
 ) -> Result<Option<Found>, LookError>
     ensures sought { Sought D.told 1 (D.tape disk.old) (D.tape disk.new) cache.old cache.new }
     ensures found { IfFound result (Confirmed D.told page (D.tape disk.old) cache.old cache.new buf.new) }
-    ensures fault { IsErrOf result LookError.DiskFault → Rose (D.tape disk.old).disk_faults (D.tape disk.new).disk_faults }
+    ensures cause { HasCause cause_of_look (D.tape disk.old) (D.tape disk.new) result }
     ensures want { IsTrue D.told → IsErrOf result LookError.Memory → ⊥ }
     ensures here { (at : ℕ) → IsTrue D.told → address_in cache.old.entries page ≡ Some at → carried (pack (D.tape disk.old)) at ≡ Some page → IfMissed result ⊥ }
     ensures unlisted { IsTrue D.told → address_in cache.old.entries page ≡ None → (D.tape disk.new).runs ≤ (D.tape disk.old).runs }
@@ -81,7 +83,7 @@ pub(crate) fn try_hint<D: Disk>(
 ) -> Result<Option<Found>, LookError>
     ensures sought { Sought D.told 1 (D.tape disk.old) (D.tape disk.new) cache.old cache.new }
     ensures found { IfFound result (Confirmed D.told page (D.tape disk.old) cache.old cache.new buf.new) }
-    ensures fault { IsErrOf result LookError.DiskFault → Rose (D.tape disk.old).disk_faults (D.tape disk.new).disk_faults }
+    ensures cause { HasCause cause_of_look (D.tape disk.old) (D.tape disk.new) result }
     ensures want { IsTrue D.told → IsErrOf result LookError.Memory → ⊥ }
     ensures here { (i : ℕ) → IsTrue D.told → at ≡ Some i → carried (pack (D.tape disk.old)) i ≡ Some page → IfMissed result ⊥ }
     ensures unlisted { IsTrue D.told → at ≡ None → (D.tape disk.new).runs ≤ (D.tape disk.old).runs }

@@ -1,7 +1,7 @@
 -- What a mending of names has done so far, and how a part of it ends.
 use Rattle.std.proofs.Common.{◌≡◌, None, Result, Ok, Err, sym, ap, subst}
 use Rattle.std.specs.Prelude.{IfErr, IfOk, IsErrAnd}
-use Rattle.disk_records.specs.Causes.{HasCause, IsCause}
+use Rattle.disk_records.specs.Causes.{HasCause, IsCause, Unfailed}
 use Rattle.disk_records.specs.Packs.{Pack}
 use Rattle.disk_records.specs.Tapes.{Grown, Taped, added, pack}
 use Rattle.disk_records.proofs.Growing.{added-twice, grown_here, grown_twice, nothing_added, pack-after}
@@ -61,7 +61,7 @@ does_stop {a} {b} {T} {Leaves} e result x found is = subst (Does Leaves a b) (sy
 pub does_last : {a b c : Taped} {T : Type 0} {Part Leaves : Pack → Pack → T → Type 0} (result : Result T Stop) → SoFar a b → Grown b c → Does Part b c result → (IfOk result (Part (pack b) (pack c)) → IfOk result (Leaves (pack a) (pack c))) → Does Leaves a c result
 does_last result x y d leaves = record { leaves = leaves d.leaves; found = d.found; keeps = (so_far_does x y d).keeps; changes = (so_far_does x y d).changes }
 
--- a call that fails by want of memory alone has a cause
-pub cause_of_memory : {T : Type 0} (a b : Taped) (r : Result T Stop) → IfErr r (λ s. s ≡ Memory) → HasCause cause_of_stop a b r
-cause_of_memory a b (Ok x) is = tt
-cause_of_memory a b (Err s) is = subst (λ x. IsCause a b (cause_of_stop x)) (sym is) tt
+-- a call that fails by want of memory alone has a cause, after calls in which no fault came
+pub cause_of_memory : {T : Type 0} (a b : Taped) (r : Result T Stop) → Unfailed a b → IfErr r (λ s. s ≡ Memory) → HasCause cause_of_stop a b r
+cause_of_memory a b (Ok x) none is = none
+cause_of_memory a b (Err s) none is = subst (λ x. IsCause a b (cause_of_stop x)) (sym is) none

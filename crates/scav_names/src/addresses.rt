@@ -1,6 +1,7 @@
 // Addresses of entries.
 ghost use Rattle.std.specs.Prelude.{◌≡◌, ◌+◌, ◌^◌, ◌<◌, IsTrue, IfOk, All};
 ghost use Rattle.disk_records.specs.Causes.{HasCause};
+ghost use Rattle.disk_records.specs.Frames.{WritesUsable};
 ghost use Rattle.disk_records.specs.Tapes.{DiskAlone, pack};
 ghost use Rattle.scav_pages.specs.Stops.{cause_of_stop};
 ghost use Rattle.scav_names.specs.Does.{Does};
@@ -62,6 +63,7 @@ pub(crate) fn mend_addresses<D: Disk>(
 ) -> Result<(), Stop>
     ensures does { IsTrue D.told → MayBeAddressed (pack (D.tape disk.old)) living.now kept.now → Does AddressesTrue (D.tape disk.old) (D.tape disk.new) result }
     ensures cause { HasCause cause_of_stop (D.tape disk.old) (D.tape disk.new) result }
+    ensures frame { WritesUsable D.told (D.tape disk.old) (D.tape disk.new) }
     ensures alone { DiskAlone (D.tape disk.old) (D.tape disk.new) }
 {
     let words = addresses_of(alloc, living, kept)?;

@@ -1,6 +1,7 @@
 // Entries that SysDir lacks, one after another.
 ghost use Rattle.std.specs.Prelude.{◌≡◌, ◌≤◌, ◌∷◌, [], IfOk, IsTrue, List, length};
 ghost use Rattle.disk_records.specs.Causes.{HasCause};
+ghost use Rattle.disk_records.specs.Frames.{WritesUsable};
 ghost use Rattle.disk_records.specs.Tapes.{DiskAlone, pack};
 ghost use Rattle.pack_model.specs.reading.Slots.{entry_length};
 ghost use Rattle.scav_pages.specs.Stops.{cause_of_stop};
@@ -27,6 +28,7 @@ fn make_room<D: Disk>(disk: &mut D, root: &mut Root, words: u16) -> Result<Entry
     ensures fits { IfOk result (λ room. words ≤ room.total) }
     ensures first { 1 ≤ root.new.from }
     ensures cause { HasCause cause_of_stop (D.tape disk.old) (D.tape disk.new) result }
+    ensures frame { WritesUsable D.told (D.tape disk.old) (D.tape disk.new) }
     ensures alone { DiskAlone (D.tape disk.old) (D.tape disk.new) }
 {
     if let Some(room) = root.rooms.find(words) {
@@ -45,6 +47,7 @@ fn enter<D: Disk>(alloc: Global, disk: &mut D, root: &mut Root, file: &Living) -
     ensures does { IsTrue D.told → (todo : List File) → MayBeEntered (pack (D.tape disk.old)) root.old (file.now ∷ todo) → Does (Entered root.new todo) (D.tape disk.old) (D.tape disk.new) result }
     ensures first { 1 ≤ root.new.from }
     ensures cause { HasCause cause_of_stop (D.tape disk.old) (D.tape disk.new) result }
+    ensures frame { WritesUsable D.told (D.tape disk.old) (D.tape disk.new) }
     ensures alone { DiskAlone (D.tape disk.old) (D.tape disk.new) }
 {
     let words = entry_words(&file.name);
@@ -64,6 +67,7 @@ pub(crate) fn enter_all<D: Disk>(
     requires first { 1 ≤ root.old.from }
     ensures does { IsTrue D.told → MayBeEntered (pack (D.tape disk.old)) root.old files.now → Does AllEntered (D.tape disk.old) (D.tape disk.new) result }
     ensures cause { HasCause cause_of_stop (D.tape disk.old) (D.tape disk.new) result }
+    ensures frame { WritesUsable D.told (D.tape disk.old) (D.tape disk.new) }
     ensures alone { DiskAlone (D.tape disk.old) (D.tape disk.new) }
 {
     for file in files {

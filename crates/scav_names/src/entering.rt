@@ -3,6 +3,7 @@ ghost use Rattle.std.specs.Prelude.{◌≡◌, ◌+◌, ◌-◌, ◌/◌, ◌%�
 ghost use Rattle.alto_words.specs.Fid.{is_full_name, sys_dir};
 ghost use Rattle.alto_words.specs.Names.{is_stored_name};
 ghost use Rattle.disk_records.specs.Causes.{HasCause};
+ghost use Rattle.disk_records.specs.Frames.{WritesUsable};
 ghost use Rattle.disk_records.specs.Tapes.{DiskAlone, pack};
 ghost use Rattle.pack_model.specs.operations.PageWords.{entered_words, in_page};
 ghost use Rattle.pack_model.specs.reading.Slots.{entry_length};
@@ -57,6 +58,7 @@ fn put_in_root<D: Disk>(disk: &mut D, root: &Root, place: u32, words: &[u16]) ->
     requires fits { place % 256 + length words.now ≤ 256 }
     ensures writes { IsTrue D.told → ArePagesOf (pack (D.tape disk.old)) sys_dir root.now.pages → place / 256 < length root.now.pages → WritesPageWords (page_writes (pack (D.tape disk.old)) (get_or root.now.pages (place / 256) 0) (in_page place) words.now) (D.tape disk.old) (D.tape disk.new) result }
     ensures cause { HasCause cause_of_stop (D.tape disk.old) (D.tape disk.new) result }
+    ensures frame { WritesUsable D.told (D.tape disk.old) (D.tape disk.new) }
     ensures alone { DiskAlone (D.tape disk.old) (D.tape disk.new) }
 {
     let found = root.page_at(disk.shape(), place)?;
@@ -67,6 +69,7 @@ fn put_in_root<D: Disk>(disk: &mut D, root: &Root, place: u32, words: &[u16]) ->
 fn make_one<D: Disk>(disk: &mut D, root: &Root, room: &EntryRoom) -> Result<(), Stop>
     ensures does { IsTrue D.told → (next : File) (todo : List File) → MayBeWritten (pack (D.tape disk.old)) root.now next todo room.now → Does (RoomMadeOne root.now next todo room.now) (D.tape disk.old) (D.tape disk.new) result }
     ensures cause { HasCause cause_of_stop (D.tape disk.old) (D.tape disk.new) result }
+    ensures frame { WritesUsable D.told (D.tape disk.old) (D.tape disk.new) }
     ensures alone { DiskAlone (D.tape disk.old) (D.tape disk.new) }
 {
     if room.first_words == room.total {
@@ -86,6 +89,7 @@ fn put_later<D: Disk>(
     requires fits { (place + near) % 256 + length later.now ≤ 256 }
     ensures does { IsTrue D.told → (next : File) (todo : List File) (room : Room) → MayBeFilled (pack (D.tape disk.old)) root.now next todo room → IsLater room place near later.now → Does (LaterWritten root.now next todo room near later.now) (D.tape disk.old) (D.tape disk.new) result }
     ensures cause { HasCause cause_of_stop (D.tape disk.old) (D.tape disk.new) result }
+    ensures frame { WritesUsable D.told (D.tape disk.old) (D.tape disk.new) }
     ensures alone { DiskAlone (D.tape disk.old) (D.tape disk.new) }
 {
     if later.is_empty() {
@@ -102,6 +106,7 @@ fn put_entry<D: Disk>(disk: &mut D, root: &Root, place: u32, words: &[u16]) -> R
     requires most { length words.now ≤ 27 }
     ensures does { IsTrue D.told → (next : File) (todo : List File) (room : Room) → MayBeFilled (pack (D.tape disk.old)) root.now next todo room → AreEntryWords next room words.now → place ≡ room.place → Does (EntryWritten root.now next todo room) (D.tape disk.old) (D.tape disk.new) result }
     ensures cause { HasCause cause_of_stop (D.tape disk.old) (D.tape disk.new) result }
+    ensures frame { WritesUsable D.told (D.tape disk.old) (D.tape disk.new) }
     ensures alone { DiskAlone (D.tape disk.old) (D.tape disk.new) }
 {
     let near = words.len().min((PAGE_WORDS - place % PAGE_WORDS) as usize);
@@ -121,6 +126,7 @@ pub(crate) fn write_entry<D: Disk>(
 ) -> Result<(), Stop>
     ensures does { IsTrue D.told → (todo : List File) → MayBeWritten (pack (D.tape disk.old)) root.now file.now todo room.now → Does (EntryWritten root.now file.now todo room.now) (D.tape disk.old) (D.tape disk.new) result }
     ensures cause { HasCause cause_of_stop (D.tape disk.old) (D.tape disk.new) result }
+    ensures frame { WritesUsable D.told (D.tape disk.old) (D.tape disk.new) }
     ensures alone { DiskAlone (D.tape disk.old) (D.tape disk.new) }
 {
     if !file.fid.is_full_name() {

@@ -16,9 +16,11 @@
 //! 5. At Ok the pages are mended still, every entry is kept, every living file has one, and every address is true (`mended`).
 //! 6. The answer is the number of files that got a name, the system files aside (`adopted_is`).
 //! 7. Whatever the answer, each record write changes what stands: no label is written that stands already, and no value either, except in a
-//!    free sector or with its sector's label (`changes`).
+//!    free sector or with its sector's label (`changes`). On any pack, sector 0 and each sector with a wrong header keep all of their records,
+//!    and every other sector its header (`frame`).
 //!
-//! All others touch no disk. On every machine a fault is answered only if its count rose (`cause`).
+//! All others touch no disk. On every machine a fault is answered only if its count rose, and at each other answer the count is as it was
+//! (`cause`).
 //! Not promised: which memory is taken, and that no list of pages is kept beside names and slots; no clause says it. On a machine that isn't
 //! modelled, a sector that shows another page than a moment ago ends the work early, as out of memory.
 #![tactic(auto)]

@@ -1,6 +1,7 @@
 // All names of a pack.
 ghost use Rattle.std.specs.Prelude.{◌≡◌, ◌^◌, ◌<◌, ◌≤◌, length, IsTrue};
 ghost use Rattle.disk_records.specs.Causes.{HasCause};
+ghost use Rattle.disk_records.specs.Frames.{WritesUsable};
 ghost use Rattle.disk_records.specs.Packs.{Pack};
 ghost use Rattle.disk_records.specs.Tapes.{DiskAlone, pack};
 ghost use Rattle.pack_model.specs.scavenger.Reports.{PagesMended};
@@ -49,7 +50,8 @@ fn count_adopted(files: &[Living]) -> u32
 /// free that aren't kept, enters the system files in SysDir if they have no entry there, and then each nameless file by rising full name, under its
 /// leader's name or the first suffix of that which isn't taken, and makes the addresses of all entries true. SysDir gets a page more for an
 /// entry that has no room. Answers how many files got a name, the system files aside. No label is written that stands already, and no value
-/// either, except in a free sector or with its sector's label. What it keeps in memory are names and slots.
+/// either, except in a free sector or with its sector's label. Whatever the answer, sector 0 and each sector with a wrong header keep all of
+/// their records, and every other sector its header. What it keeps in memory are names and slots.
 ///
 /// DiskFault: the disk failed. Memory: none was left for names and slots, or for record writes of the disk; or, on a disk that isn't modelled, a
 /// sector shows another page than a moment ago, or none is free where one has to be. After either of them a prefix of the work is done, and the
@@ -61,6 +63,7 @@ pub fn mend_names<D: Disk>(
 ) -> Result<u32, SweepError>
     ensures mends { IsTrue D.told → Scavengeable (pack (D.tape disk.old)) → PagesMended (pack (D.tape disk.old)) → MendsNames (D.tape disk.old) (D.tape disk.new) result }
     ensures cause { HasCause cause_of_sweep (D.tape disk.old) (D.tape disk.new) result }
+    ensures frame { WritesUsable D.told (D.tape disk.old) (D.tape disk.new) }
     ensures alone { DiskAlone (D.tape disk.old) (D.tape disk.new) }
 {
     match mend(alloc, disk, table) {
@@ -76,6 +79,7 @@ pub fn mend_names<D: Disk>(
 fn mend<D: Disk>(alloc: Global, disk: &mut D, table: &mut Table) -> Result<u32, Stop>
     ensures does { IsTrue D.told → MayBeNamed (pack (D.tape disk.old)) → Does AreMended (D.tape disk.old) (D.tape disk.new) result }
     ensures cause { HasCause cause_of_stop (D.tape disk.old) (D.tape disk.new) result }
+    ensures frame { WritesUsable D.told (D.tape disk.old) (D.tape disk.new) }
     ensures alone { DiskAlone (D.tape disk.old) (D.tape disk.new) }
 {
     let names = read_names(alloc, disk, table)?;
@@ -93,6 +97,7 @@ fn mend_parted<D: Disk>(
 ) -> Result<u32, Stop>
     ensures does { IsTrue D.told → MayBeNamed (pack (D.tape disk.old)) → HoldsNames (pack (D.tape disk.old)) names → IsParted (pack (D.tape disk.old)) parted.old → Does AreMended (D.tape disk.old) (D.tape disk.new) result }
     ensures cause { HasCause cause_of_stop (D.tape disk.old) (D.tape disk.new) result }
+    ensures frame { WritesUsable D.told (D.tape disk.old) (D.tape disk.new) }
     ensures alone { DiskAlone (D.tape disk.old) (D.tape disk.new) }
 {
     let files = make_ready(alloc, disk, table, &mut names, parted)?;
@@ -128,6 +133,7 @@ fn make_ready<D: Disk>(
 ) -> Result<List<Living>, Stop>
     ensures does { IsTrue D.told → MayBeNamed (pack (D.tape disk.old)) → HoldsNames (pack (D.tape disk.old)) names.old → IsParted (pack (D.tape disk.old)) parted.old → Does (AreReady (root_read names.new) names.new.living parted.new.kept) (D.tape disk.old) (D.tape disk.new) result }
     ensures cause { HasCause cause_of_stop (D.tape disk.old) (D.tape disk.new) result }
+    ensures frame { WritesUsable D.told (D.tape disk.old) (D.tape disk.new) }
     ensures alone { DiskAlone (D.tape disk.old) (D.tape disk.new) }
 {
     free_unkept(alloc, disk, table, parted.unkept.as_slice())?;
@@ -150,6 +156,7 @@ fn name_files<D: Disk>(
     requires first { 1 ≤ root.old.from }
     ensures does { IsTrue D.told → (p : Pack) → AreReady root.old living.now kept.now p (pack (D.tape disk.old)) files.now → Does (AreMendedSince p) (D.tape disk.old) (D.tape disk.new) result }
     ensures cause { HasCause cause_of_stop (D.tape disk.old) (D.tape disk.new) result }
+    ensures frame { WritesUsable D.told (D.tape disk.old) (D.tape disk.new) }
     ensures alone { DiskAlone (D.tape disk.old) (D.tape disk.new) }
 {
     enter_all(alloc, disk, root, files)?;

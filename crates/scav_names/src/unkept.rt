@@ -1,6 +1,7 @@
 // Entries that aren't kept.
 ghost use Rattle.std.specs.Prelude.{◌≡◌, map, IsTrue, IfOk};
 ghost use Rattle.disk_records.specs.Causes.{HasCause};
+ghost use Rattle.disk_records.specs.Frames.{WritesUsable};
 ghost use Rattle.disk_records.specs.Tapes.{DiskAlone, pack};
 ghost use Rattle.scav_pages.specs.Stops.{cause_of_stop};
 ghost use Rattle.scav_names.specs.Does.{Does};
@@ -40,6 +41,7 @@ pub(crate) fn free_unkept<D: Disk>(
 ) -> Result<(), Stop>
     ensures does { IsTrue D.told → MayBeNamed (pack (D.tape disk.old)) → unkept.now ≡ unkept_entries (pack (D.tape disk.old)) → Does UnkeptFreed (D.tape disk.old) (D.tape disk.new) result }
     ensures cause { HasCause cause_of_stop (D.tape disk.old) (D.tape disk.new) result }
+    ensures frame { WritesUsable D.told (D.tape disk.old) (D.tape disk.new) }
     ensures alone { DiskAlone (D.tape disk.old) (D.tape disk.new) }
 {
     let words = freeing_words(alloc, unkept)?;

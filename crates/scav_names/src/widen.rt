@@ -5,6 +5,7 @@ ghost use Rattle.pack_model.specs.scavenger.Mended.{with_page};
 ghost use Rattle.alto_words.specs.Fid.{is_full_name};
 ghost use Rattle.disk_records.specs.Addresses.{pages_of};
 ghost use Rattle.disk_records.specs.Causes.{HasCause};
+ghost use Rattle.disk_records.specs.Frames.{WritesUsable};
 ghost use Rattle.disk_records.specs.Packs.{carried};
 ghost use Rattle.disk_records.specs.Tapes.{DiskAlone, pack};
 ghost use Rattle.scav_pages.specs.Stops.{cause_of_stop};
@@ -30,6 +31,7 @@ pub(crate) fn widen_root<D: Disk>(disk: &mut D, root: &mut Root) -> Result<(), S
     ensures does { IsTrue D.told → (todo : List File) → MayBeWidened (pack (D.tape disk.old)) root.old todo → Does (Widened root.old root.new todo) (D.tape disk.old) (D.tape disk.new) result }
     ensures first { 1 ≤ root.new.from }
     ensures cause { HasCause cause_of_stop (D.tape disk.old) (D.tape disk.new) result }
+    ensures frame { WritesUsable D.told (D.tape disk.old) (D.tape disk.new) }
     ensures alone { DiskAlone (D.tape disk.old) (D.tape disk.new) }
 {
     let shape = disk.shape();
@@ -59,6 +61,7 @@ fn lengthen<D: Disk>(disk: &mut D, at: u16, page: Page, used: u16, next: u16) ->
     requires used { used < 256 }
     ensures writes { IsTrue D.told → carried (pack (D.tape disk.old)) at ≡ Some page → WritesPageWords (lengthening_writes (pack (D.tape disk.old)) at page used next) (D.tape disk.old) (D.tape disk.new) result }
     ensures cause { HasCause cause_of_stop (D.tape disk.old) (D.tape disk.new) result }
+    ensures frame { WritesUsable D.told (D.tape disk.old) (D.tape disk.new) }
     ensures alone { DiskAlone (D.tape disk.old) (D.tape disk.new) }
 {
     let mut buf = Sector::ZEROS;

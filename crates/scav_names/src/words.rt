@@ -3,6 +3,7 @@ ghost use Rattle.std.specs.Prelude.{◌≡◌, ◌+◌, ◌/◌, ◌%◌, ◌<�
 ghost use Rattle.std.specs.Cmp.Lexicographic.{pointwise};
 ghost use Rattle.disk_records.specs.Addresses.{pages_of};
 ghost use Rattle.disk_records.specs.Causes.{HasCause};
+ghost use Rattle.disk_records.specs.Frames.{WritesUsable};
 ghost use Rattle.disk_records.specs.Packs.{carried};
 ghost use Rattle.disk_records.specs.Tapes.{DiskAlone, pack};
 ghost use Rattle.pack_model.specs.reading.Bytes.{put_at};
@@ -55,6 +56,7 @@ pub(crate) fn put_words<D: Disk>(
     requires fits { from + length words.now ≤ 256 }
     ensures writes { IsTrue D.told → carried (pack (D.tape disk.old)) at ≡ Some page → WritesPageWords (page_writes (pack (D.tape disk.old)) at from words.now) (D.tape disk.old) (D.tape disk.new) result }
     ensures cause { HasCause cause_of_stop (D.tape disk.old) (D.tape disk.new) result }
+    ensures frame { WritesUsable D.told (D.tape disk.old) (D.tape disk.new) }
     ensures alone { DiskAlone (D.tape disk.old) (D.tape disk.new) }
 {
     let mut buf = Sector::ZEROS;
@@ -89,6 +91,7 @@ pub(crate) fn put_value<D: Disk>(
     requires place { at < pages_of (D.tape disk.old).form }
     ensures writes { IsTrue D.told → carried (pack (D.tape disk.old)) at ≡ Some page → WritesPageWords (changed_writes at old.now new.now) (D.tape disk.old) (D.tape disk.new) result }
     ensures cause { HasCause cause_of_stop (D.tape disk.old) (D.tape disk.new) result }
+    ensures frame { WritesUsable D.told (D.tape disk.old) (D.tape disk.new) }
     ensures alone { DiskAlone (D.tape disk.old) (D.tape disk.new) }
 {
     if *old != *new {
@@ -111,6 +114,7 @@ fn write_in_page<D: Disk>(
     ensures wrote { IsTrue D.told → carried (pack (D.tape disk.old)) row.now.at ≡ Some row.now.page → OnOk result (WritesPage row.now.at row.now.page (pack (D.tape disk.old)) (pack (D.tape disk.new))) }
     ensures within { IfOk result (λ more. (done ≤ more) × (more ≤ length words.now)) }
     ensures cause { HasCause cause_of_stop (D.tape disk.old) (D.tape disk.new) result }
+    ensures frame { WritesUsable D.told (D.tape disk.old) (D.tape disk.new) }
     ensures alone { DiskAlone (D.tape disk.old) (D.tape disk.new) }
 {
     let mut more = done;
@@ -137,6 +141,7 @@ pub(crate) fn write_words<D: Disk>(
 ) -> Result<(), Stop>
     ensures writes { IsTrue D.told → AreWordsOf (pack (D.tape disk.old)) words.now → WritesWords words.now (D.tape disk.old) (D.tape disk.new) result }
     ensures cause { HasCause cause_of_stop (D.tape disk.old) (D.tape disk.new) result }
+    ensures frame { WritesUsable D.told (D.tape disk.old) (D.tape disk.new) }
     ensures alone { DiskAlone (D.tape disk.old) (D.tape disk.new) }
 {
     if words.is_empty() {

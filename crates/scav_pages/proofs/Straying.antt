@@ -12,12 +12,15 @@ use Rattle.disk_records.specs.Addresses.{is_right_header}
 use Rattle.disk_records.specs.Checks.{mismatch}
 use Rattle.disk_records.specs.Commands.{release_writes}
 use Rattle.disk_records.specs.Events.{IsFirstOf}
+use Rattle.disk_records.specs.Frames.{IsUsableSector, WritesIn}
 use Rattle.disk_records.specs.Labels.{in_range, is_free, page_of, tag}
 use Rattle.disk_records.specs.Packs.{Pack, after, carried, is_free_at, is_usable, sector_at}
 use Rattle.disk_records.specs.Tapes.{DiskAlone, Looks, Taped, added, pack}
 use Rattle.disk_records.proofs.Checking.{no_mismatch}
+use Rattle.disk_records.proofs.Framing.{writes_some}
 use Rattle.disk_records.proofs.Growing.{added-twice, alone_twice, pack-after}
 use Rattle.disk_records.proofs.Looking.{looks_pack}
+use Rattle.label_check.proofs.Framing.{release_here}
 use Rattle.pack_model.specs.reading.Sights.{page_sight, sight, sights}
 use Rattle.pack_model.specs.reading.Sights.Sight.{free, hidden, stray}
 use Rattle.pack_model.specs.states.InUse.{one_if}
@@ -162,6 +165,9 @@ module _ {told : Bool} {a b c : Taped} (at : ℕ) (looks : Looks told 1 a b) (al
 
   mends : AllMend (pack a) (added a c)
   mends = mend_breaks_off (pack a) (release_writes at) (added a c) (subst (IsFirstOf (release_writes at)) (sym added_is) some) (record { tends = stray_release_tends (pack a) at is.usable is.carries; changes = busy_release_changes (pack a) at is.usable is.busy })
+
+  pub stray_usable : WritesIn (IsUsableSector (pack a)) (added a c)
+  stray_usable = writes_some (IsUsableSector (pack a)) (release_writes at) (added a c) (subst (IsFirstOf (release_writes at)) (sym added_is) some) (release_here (IsUsableSector (pack a)) at is.usable)
 
   left : added b c ≡ release_writes at → pack c ≡ after (pack a) (release_writes at)
   left wrote = pack-after (alone_twice looks.alone alone).grown ∙ ap (after (pack a)) (added_is ∙ wrote)

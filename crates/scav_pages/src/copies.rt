@@ -1,6 +1,7 @@
 // Second copies of pages.
 ghost use Rattle.std.specs.Prelude.{IsTrue};
 ghost use Rattle.disk_records.specs.Causes.{HasCause};
+ghost use Rattle.disk_records.specs.Frames.{WritesUsable};
 ghost use Rattle.disk_records.specs.Tapes.{DiskAlone};
 ghost use Rattle.scav_pages.specs.Does.{Does};
 ghost use Rattle.scav_pages.specs.Parts.{CopiesReleased};
@@ -16,6 +17,7 @@ use scav_table::{Pass, Table};
 pub(crate) fn release_copies<D: Disk>(disk: &mut D, table: &mut Table) -> Result<u32, Stop>
     ensures does { IsTrue D.told → Does CopiesReleased (D.tape disk.old) (D.tape disk.new) result }
     ensures cause { HasCause cause_of_stop (D.tape disk.old) (D.tape disk.new) result }
+    ensures frame { WritesUsable D.told (D.tape disk.old) (D.tape disk.new) }
     ensures alone { DiskAlone (D.tape disk.old) (D.tape disk.new) }
 {
     let mut pass = Pass::begin(disk, table)?;

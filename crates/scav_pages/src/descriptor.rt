@@ -2,6 +2,7 @@
 ghost use Rattle.std.specs.Prelude.{◌≡◌, ◌+◌, ◌-◌, ◌*◌, ◌≤◌, ◌<◌, min, get_or, IsTrue};
 ghost use Rattle.disk_records.specs.Addresses.{descriptor_length, pages_of};
 ghost use Rattle.disk_records.specs.Causes.{HasCause};
+ghost use Rattle.disk_records.specs.Frames.{WritesUsable};
 ghost use Rattle.disk_records.specs.Tapes.{DiskAlone, pack};
 ghost use Rattle.pack_model.specs.sessions.Descriptor.{data_pages};
 ghost use Rattle.scav_pages.specs.Does.{Does};
@@ -53,6 +54,7 @@ pub(crate) fn mend_descriptor<D: Disk>(
     requires within { AreWithin (pages_of (D.tape disk.old).form) places.old }
     ensures does { IsTrue D.told → MayDescribe (pack (D.tape disk.old)) places.old from.old → Does Described (D.tape disk.old) (D.tape disk.new) result }
     ensures cause { HasCause cause_of_stop (D.tape disk.old) (D.tape disk.new) result }
+    ensures frame { WritesUsable D.told (D.tape disk.old) (D.tape disk.new) }
     ensures alone { DiskAlone (D.tape disk.old) (D.tape disk.new) }
 {
     let last = data_pages(disk.shape());
@@ -80,6 +82,7 @@ fn mend_data_page<D: Disk>(
     ensures first { 1 ≤ from.new }
     ensures within { AreWithin (pages_of (D.tape disk.old).form) places.new }
     ensures cause { HasCause cause_of_stop (D.tape disk.old) (D.tape disk.new) result }
+    ensures frame { WritesUsable D.told (D.tape disk.old) (D.tape disk.new) }
     ensures alone { DiskAlone (D.tape disk.old) (D.tape disk.new) }
 {
     let page = Page {
@@ -108,6 +111,7 @@ fn make_leader<D: Disk>(disk: &mut D, places: &Places, from: &mut u16) -> Result
     requires within { AreWithin (pages_of (D.tape disk.old).form) places.now }
     ensures does { IsTrue D.told → MayDescribePage (pack (D.tape disk.old)) (data_pages (D.tape disk.old).form + 1) places.now from.old → Does Described (D.tape disk.old) (D.tape disk.new) result }
     ensures cause { HasCause cause_of_stop (D.tape disk.old) (D.tape disk.new) result }
+    ensures frame { WritesUsable D.told (D.tape disk.old) (D.tape disk.new) }
     ensures alone { DiskAlone (D.tape disk.old) (D.tape disk.new) }
 {
     let shape = disk.shape();

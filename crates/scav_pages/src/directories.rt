@@ -2,6 +2,7 @@
 ghost use Rattle.std.specs.Prelude.{◌≡◌, ◌*◌, ◌+◌, ◌<◌, ◌≤◌, Option, Some, IsTrue, IsErrOf, OnOk};
 ghost use Rattle.disk_records.specs.Addresses.{pages_of};
 ghost use Rattle.disk_records.specs.Causes.{HasCause};
+ghost use Rattle.disk_records.specs.Frames.{WritesUsable};
 ghost use Rattle.disk_records.specs.Packs.{Pack, carried, sector_at};
 ghost use Rattle.disk_records.specs.Tapes.{DiskAlone, Looks, pack};
 ghost use Rattle.scav_table.specs.declared.row.Row.{Row as RowOf};
@@ -28,6 +29,7 @@ const NO_LINK: u16 = 0xFFFF;
 pub(crate) fn cut_directories<D: Disk>(disk: &mut D, table: &mut Table) -> Result<(), Stop>
     ensures does { IsTrue D.told → Cleared (pack (D.tape disk.old)) → Does DirectoriesEnd (D.tape disk.old) (D.tape disk.new) result }
     ensures cause { HasCause cause_of_stop (D.tape disk.old) (D.tape disk.new) result }
+    ensures frame { WritesUsable D.told (D.tape disk.old) (D.tape disk.new) }
     ensures alone { DiskAlone (D.tape disk.old) (D.tape disk.new) }
 {
     let mut pass = Pass::begin(disk, table)?;
@@ -76,6 +78,7 @@ fn cut_directory<D: Disk>(disk: &mut D, dir: &Directory) -> Result<(), Stop>
     ensures does { IsTrue D.told → Cleared (pack (D.tape disk.old)) → MayBeCut (pack (D.tape disk.old)) dir.now → Does (DirectoryEnds dir.now) (D.tape disk.old) (D.tape disk.new) result }
     ensures wrote { IsTrue D.told → OnOk result (RelabelsHand dir.now.walk (pack (D.tape disk.old)) (pack (D.tape disk.new))) }
     ensures cause { HasCause cause_of_stop (D.tape disk.old) (D.tape disk.new) result }
+    ensures frame { WritesUsable D.told (D.tape disk.old) (D.tape disk.new) }
     ensures alone { DiskAlone (D.tape disk.old) (D.tape disk.new) }
 {
     let Some(fid) = dir.walk.fid() else {

@@ -2,6 +2,7 @@
 ghost use Rattle.std.specs.Prelude.{◌≡◌, ◌≤◌, ◌<◌, ◌↔◌, get_or, ℕ, Some, IsTrue, IfOk, OnOk};
 ghost use Rattle.disk_records.specs.Addresses.{pages_of};
 ghost use Rattle.disk_records.specs.Causes.{HasCause};
+ghost use Rattle.disk_records.specs.Frames.{WritesUsable};
 ghost use Rattle.disk_records.specs.Labels.{page_of};
 ghost use Rattle.disk_records.specs.Tapes.{DiskAlone, pack};
 ghost use Rattle.laws_mend.specs.Parts.{Rooted};
@@ -29,6 +30,7 @@ const NO_LINK: u16 = 0xFFFF;
 pub(crate) fn mend_ends<D: Disk>(disk: &mut D, table: &mut Table) -> Result<(), Stop>
     ensures does { IsTrue D.told → Scavengeable (pack (D.tape disk.old)) → Rooted (pack (D.tape disk.old)) → Does Described (D.tape disk.old) (D.tape disk.new) result }
     ensures cause { HasCause cause_of_stop (D.tape disk.old) (D.tape disk.new) result }
+    ensures frame { WritesUsable D.told (D.tape disk.old) (D.tape disk.new) }
     ensures alone { DiskAlone (D.tape disk.old) (D.tape disk.new) }
 {
     let mut pass = Pass::begin(disk, table)?;
@@ -65,6 +67,7 @@ fn claim_last<D: Disk>(disk: &mut D, walk: &FileWalk, from: &mut u16) -> Result<
     ensures wrote { IsTrue D.told → OnOk result (ClaimsHand walk.now (pack (D.tape disk.old)) (pack (D.tape disk.new))) }
     ensures first { 1 ≤ from.new }
     ensures cause { HasCause cause_of_stop (D.tape disk.old) (D.tape disk.new) result }
+    ensures frame { WritesUsable D.told (D.tape disk.old) (D.tape disk.new) }
     ensures alone { DiskAlone (D.tape disk.old) (D.tape disk.new) }
 {
     let Some(fid) = walk.fid() else {
@@ -97,6 +100,7 @@ pub(crate) fn claim_page<D: Disk>(
     ensures first { 1 ≤ from.new }
     ensures place { IfOk result (λ at. (1 ≤ at) × (at < pages_of (D.tape disk.old).form)) }
     ensures cause { HasCause cause_of_stop (D.tape disk.old) (D.tape disk.new) result }
+    ensures frame { WritesUsable D.told (D.tape disk.old) (D.tape disk.new) }
     ensures alone { DiskAlone (D.tape disk.old) (D.tape disk.new) }
 {
     let previous = match before {

@@ -13,7 +13,7 @@ pub fn leaves_the_last_file()
 {}
 
 /// Of a file in hand of which no more rows come a walk says whether it lives, and its length; if its bytes go on to the end of their pages,
-/// that the page after these is missing, and else that its last page is there.
+/// that the next page is missing, and else that its last page is there.
 pub fn left_file_is_known()
     ensures { LeftFileIsKnown }
 {}

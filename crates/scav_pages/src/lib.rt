@@ -19,12 +19,14 @@
 //! 5. A `FileWalk` that is given the rows in their order says what each is to its file (`met`), and of a file of which no more rows come
 //!    whether it lives, how long it is, and whether its last page is missing (`leaves_its_file`, `leaves_the_last_file`,
 //!    `left_file_is_known`).
+//! 6. Whatever the answer, sector 0 and each sector with a wrong header keep all their records, and every sector its header (`frame`).
 //!
 //! What the rest of the Scavenger shares with these parts is open to it: a `Stop` says why a part ended early, `next_row` and `next_free`
 //! give the next row of a pass and the next free sector, `own_name` and `data_pages` the name and the pages of a file that is made.
 //!
-//! On every machine a fault is answered only if its count rose (`cause`), and out of memory only where a sector command was.
-//! Not promised: anything of a pack that can't be scavenged. On a machine that isn't modelled, a sector that shows another page than a
+//! On every machine a fault is answered only if its count rose, at each other answer the count is as it was (`cause`), and out of memory
+//! comes only where a sector command was.
+//! Not promised: anything else of a pack that can't be scavenged. On a machine that isn't modelled, a sector that shows another page than a
 //! moment ago ends the work early: `mend_pages` answers as if it were done, and `mend_pages_or_stop`, which does the same otherwise, tells it.
 #![tactic(auto)]
 

@@ -4,6 +4,7 @@ ghost use Rattle.alto_words.specs.Fid.{is_fid};
 ghost use Rattle.alto_words.specs.Names.{is_stored_name};
 ghost use Rattle.disk_records.specs.Addresses.{pages_of, real_of};
 ghost use Rattle.disk_records.specs.Causes.{HasCause};
+ghost use Rattle.disk_records.specs.Frames.{WritesUsable};
 ghost use Rattle.disk_records.specs.Packs.{carried, sector_at};
 ghost use Rattle.disk_records.specs.Tapes.{DiskAlone, pack};
 ghost use Rattle.pack_model.specs.hints.Links.{no_link};
@@ -44,6 +45,7 @@ pub(crate) struct Pending {
 pub(crate) fn mend_links<D: Disk>(disk: &mut D, table: &mut Table) -> Result<(), Stop>
     ensures does { IsTrue D.told → Lasting (pack (D.tape disk.old)) → Does LinksMended (D.tape disk.old) (D.tape disk.new) result }
     ensures cause { HasCause cause_of_stop (D.tape disk.old) (D.tape disk.new) result }
+    ensures frame { WritesUsable D.told (D.tape disk.old) (D.tape disk.new) }
     ensures alone { DiskAlone (D.tape disk.old) (D.tape disk.new) }
 {
     let mut pass = Pass::begin(disk, table)?;
@@ -65,6 +67,7 @@ fn mend_before<D: Disk>(disk: &mut D, pending: Option<Pending>, row: Row) -> Res
     ensures does { IsTrue D.told → MayMeet (pack (D.tape disk.old)) pending row → Does RowMet (D.tape disk.old) (D.tape disk.new) result }
     ensures wrote { IsTrue D.told → OnOk result (WritesPending pending (pack (D.tape disk.old)) (pack (D.tape disk.new))) }
     ensures cause { HasCause cause_of_stop (D.tape disk.old) (D.tape disk.new) result }
+    ensures frame { WritesUsable D.told (D.tape disk.old) (D.tape disk.new) }
     ensures alone { DiskAlone (D.tape disk.old) (D.tape disk.new) }
 {
     let Some(before) = pending else {
@@ -98,6 +101,7 @@ fn mend_page<D: Disk>(disk: &mut D, page: &Pending, next: u16) -> Result<(), Sto
     ensures does { IsTrue D.told → MayMendPage (pack (D.tape disk.old)) page.now next → Does (PageMended page.now.row.at) (D.tape disk.old) (D.tape disk.new) result }
     ensures wrote { IsTrue D.told → OnOk result (WritesPage page.now.row.at page.now.row.page (pack (D.tape disk.old)) (pack (D.tape disk.new))) }
     ensures cause { HasCause cause_of_stop (D.tape disk.old) (D.tape disk.new) result }
+    ensures frame { WritesUsable D.told (D.tape disk.old) (D.tape disk.new) }
     ensures alone { DiskAlone (D.tape disk.old) (D.tape disk.new) }
 {
     let mut buf = Sector::ZEROS;
@@ -116,6 +120,7 @@ fn link_page<D: Disk>(disk: &mut D, page: &Pending, next: u16, buf: &mut Sector)
     ensures wrote { IsTrue D.told → OnOk result (WritesPage page.now.row.at page.now.row.page (pack (D.tape disk.old)) (pack (D.tape disk.new))) }
     ensures holds { IsTrue D.told → OnOk result (buf.new.value ≡ (sector_at (pack (D.tape disk.new)) page.now.row.at).value) }
     ensures cause { HasCause cause_of_stop (D.tape disk.old) (D.tape disk.new) result }
+    ensures frame { WritesUsable D.told (D.tape disk.old) (D.tape disk.new) }
     ensures alone { DiskAlone (D.tape disk.old) (D.tape disk.new) }
 {
     let row = &page.row;
@@ -135,6 +140,7 @@ fn name_page<D: Disk>(disk: &mut D, row: &Row, value: &mut [u16; 256]) -> Result
     ensures does { IsTrue D.told → MayName (pack (D.tape disk.old)) row.now value.old → Does (PageMended row.now.at) (D.tape disk.old) (D.tape disk.new) result }
     ensures wrote { IsTrue D.told → carried (pack (D.tape disk.old)) row.now.at ≡ Some row.now.page → OnOk result (WritesPage row.now.at row.now.page (pack (D.tape disk.old)) (pack (D.tape disk.new))) }
     ensures cause { HasCause cause_of_stop (D.tape disk.old) (D.tape disk.new) result }
+    ensures frame { WritesUsable D.told (D.tape disk.old) (D.tape disk.new) }
     ensures alone { DiskAlone (D.tape disk.old) (D.tape disk.new) }
 {
     if Leader::decode(value).is_none() {

@@ -2,6 +2,7 @@
 ghost use Rattle.std.specs.Prelude.{◌<◌, ◌≤◌, IsTrue, IfOk, IfSome};
 ghost use Rattle.disk_records.specs.Addresses.{pages_of};
 ghost use Rattle.disk_records.specs.Causes.{HasCause};
+ghost use Rattle.disk_records.specs.Frames.{WritesUsable};
 ghost use Rattle.disk_records.specs.Tapes.{DiskAlone, pack};
 ghost use Rattle.pack_model.specs.scavenger.Scavenging.{Scavengeable};
 ghost use Rattle.scav_table.specs.Causes.{cause_of_sweep};
@@ -35,6 +36,7 @@ use scav_table::{SweepError, Table};
 pub fn mend_pages<D: Disk>(disk: &mut D, table: &mut Table) -> Result<u32, SweepError>
     ensures mends { IsTrue D.told → Scavengeable (pack (D.tape disk.old)) → MendsPages (D.tape disk.old) (D.tape disk.new) result }
     ensures cause { HasCause cause_of_sweep (D.tape disk.old) (D.tape disk.new) result }
+    ensures frame { WritesUsable D.told (D.tape disk.old) (D.tape disk.new) }
     ensures alone { DiskAlone (D.tape disk.old) (D.tape disk.new) }
 {
     let mut freed = 0;
@@ -56,6 +58,7 @@ pub fn mend_pages<D: Disk>(disk: &mut D, table: &mut Table) -> Result<u32, Sweep
 pub fn mend_pages_or_stop<D: Disk>(disk: &mut D, table: &mut Table) -> Result<u32, Stop>
     ensures mends { IsTrue D.told → Scavengeable (pack (D.tape disk.old)) → MendsOrStops (D.tape disk.old) (D.tape disk.new) result }
     ensures cause { HasCause cause_of_stop (D.tape disk.old) (D.tape disk.new) result }
+    ensures frame { WritesUsable D.told (D.tape disk.old) (D.tape disk.new) }
     ensures alone { DiskAlone (D.tape disk.old) (D.tape disk.new) }
 {
     let mut freed = 0;
@@ -67,6 +70,7 @@ pub fn mend_pages_or_stop<D: Disk>(disk: &mut D, table: &mut Table) -> Result<u3
 fn mend<D: Disk>(disk: &mut D, table: &mut Table, freed: &mut u32) -> Result<(), Stop>
     ensures does { IsTrue D.told → Scavengeable (pack (D.tape disk.old)) → Does (λ p q done. AreMended p q freed.new) (D.tape disk.old) (D.tape disk.new) result }
     ensures cause { HasCause cause_of_stop (D.tape disk.old) (D.tape disk.new) result }
+    ensures frame { WritesUsable D.told (D.tape disk.old) (D.tape disk.new) }
     ensures alone { DiskAlone (D.tape disk.old) (D.tape disk.new) }
 {
     let unused = release_available(disk, table)?;
@@ -83,6 +87,7 @@ fn release_available<D: Disk>(disk: &mut D, table: &mut Table) -> Result<Unused,
     ensures does { IsTrue D.told → Does UnusedReleased (D.tape disk.old) (D.tape disk.new) result }
     ensures place { IfOk result (λ unused. IfSome unused.root (λ at. (1 ≤ at) × (at < pages_of (D.tape disk.old).form))) }
     ensures cause { HasCause cause_of_stop (D.tape disk.old) (D.tape disk.new) result }
+    ensures frame { WritesUsable D.told (D.tape disk.old) (D.tape disk.new) }
     ensures alone { DiskAlone (D.tape disk.old) (D.tape disk.new) }
 {
     let copies = release_copies(disk, table)?;

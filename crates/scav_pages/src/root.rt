@@ -2,6 +2,7 @@
 ghost use Rattle.std.specs.Prelude.{◌≡◌, ◌<◌, ◌≤◌, IsTrue, None, Some, IfSome};
 ghost use Rattle.disk_records.specs.Addresses.{pages_of};
 ghost use Rattle.disk_records.specs.Causes.{HasCause};
+ghost use Rattle.disk_records.specs.Frames.{WritesUsable};
 ghost use Rattle.disk_records.specs.Tapes.{DiskAlone, pack};
 ghost use Rattle.leader_page.specs.Pages.{Says};
 ghost use Rattle.pack_model.specs.operations.PageWords.{last_page_hints};
@@ -85,6 +86,7 @@ pub(crate) fn mend_root<D: Disk>(disk: &mut D, root: Option<u16>) -> Result<(), 
     requires place { IfSome root (λ at. at < pages_of (D.tape disk.old).form) }
     ensures does { IsTrue D.told → MayMoveRoot (pack (D.tape disk.old)) root → Does RootMended (D.tape disk.old) (D.tape disk.new) result }
     ensures cause { HasCause cause_of_stop (D.tape disk.old) (D.tape disk.new) result }
+    ensures frame { WritesUsable D.told (D.tape disk.old) (D.tape disk.new) }
     ensures alone { DiskAlone (D.tape disk.old) (D.tape disk.new) }
 {
     match root {
@@ -100,6 +102,7 @@ fn move_root<D: Disk>(disk: &mut D, old: u16) -> Result<(), Stop>
     requires place { old < pages_of (D.tape disk.old).form }
     ensures does { IsTrue D.told → MayMoveRoot (pack (D.tape disk.old)) (Some old) → Does RootMended (D.tape disk.old) (D.tape disk.new) result }
     ensures cause { HasCause cause_of_stop (D.tape disk.old) (D.tape disk.new) result }
+    ensures frame { WritesUsable D.told (D.tape disk.old) (D.tape disk.new) }
     ensures alone { DiskAlone (D.tape disk.old) (D.tape disk.new) }
 {
     let mut buf = Sector::ZEROS;
@@ -114,6 +117,7 @@ fn move_root<D: Disk>(disk: &mut D, old: u16) -> Result<(), Stop>
 fn make_root<D: Disk>(disk: &mut D) -> Result<(), Stop>
     ensures does { IsTrue D.told → MayMoveRoot (pack (D.tape disk.old)) None → Does RootMended (D.tape disk.old) (D.tape disk.new) result }
     ensures cause { HasCause cause_of_stop (D.tape disk.old) (D.tape disk.new) result }
+    ensures frame { WritesUsable D.told (D.tape disk.old) (D.tape disk.new) }
     ensures alone { DiskAlone (D.tape disk.old) (D.tape disk.new) }
 {
     let shape = disk.shape();

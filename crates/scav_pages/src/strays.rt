@@ -2,6 +2,7 @@
 ghost use Rattle.std.specs.Prelude.{◌<◌, ◌≤◌, IsTrue};
 ghost use Rattle.disk_records.specs.Addresses.{pages_of};
 ghost use Rattle.disk_records.specs.Causes.{HasCause};
+ghost use Rattle.disk_records.specs.Frames.{WritesUsable};
 ghost use Rattle.disk_records.specs.Tapes.{DiskAlone, pack};
 ghost use Rattle.pack_model.specs.reading.Sights.{sights};
 ghost use Rattle.pack_model.specs.states.Sentences.{EachOnce};
@@ -17,6 +18,7 @@ use label_check::look;
 pub(crate) fn release_strays<D: Disk>(disk: &mut D) -> Result<u32, Stop>
     ensures does { IsTrue D.told → EachOnce (sights (pack (D.tape disk.old))) → Does StraysReleased (D.tape disk.old) (D.tape disk.new) result }
     ensures cause { HasCause cause_of_stop (D.tape disk.old) (D.tape disk.new) result }
+    ensures frame { WritesUsable D.told (D.tape disk.old) (D.tape disk.new) }
     ensures alone { DiskAlone (D.tape disk.old) (D.tape disk.new) }
 {
     let mut buf = Sector::ZEROS;
@@ -36,6 +38,7 @@ fn release_stray<D: Disk>(disk: &mut D, at: u16, buf: &mut Sector) -> Result<boo
     requires place { at < pages_of (D.tape disk.old).form }
     ensures does { IsTrue D.told → EachOnce (sights (pack (D.tape disk.old))) → Does (StrayReleased at) (D.tape disk.old) (D.tape disk.new) result }
     ensures cause { HasCause cause_of_stop (D.tape disk.old) (D.tape disk.new) result }
+    ensures frame { WritesUsable D.told (D.tape disk.old) (D.tape disk.new) }
     ensures alone { DiskAlone (D.tape disk.old) (D.tape disk.new) }
 {
     let right = look(disk, at, buf)?;

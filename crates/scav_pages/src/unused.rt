@@ -2,6 +2,7 @@
 ghost use Rattle.std.specs.Prelude.{◌≡◌, ◌<◌, ◌≤◌, Some, Option, IsTrue, IfOk, IfSome};
 ghost use Rattle.disk_records.specs.Addresses.{pages_of};
 ghost use Rattle.disk_records.specs.Causes.{HasCause};
+ghost use Rattle.disk_records.specs.Frames.{WritesUsable};
 ghost use Rattle.disk_records.specs.Packs.{Pack};
 ghost use Rattle.disk_records.specs.Tapes.{DiskAlone, pack};
 ghost use Rattle.pack_model.specs.states.InUse.{counts};
@@ -44,6 +45,7 @@ pub(crate) fn release_unused<D: Disk>(disk: &mut D, table: &mut Table) -> Result
     ensures does { IsTrue D.told → Ended (pack (D.tape disk.old)) → Does UnusedReleased (D.tape disk.old) (D.tape disk.new) result }
     ensures place { IfOk result (λ unused. IfSome unused.root (λ at. (1 ≤ at) × (at < pages_of (D.tape disk.old).form))) }
     ensures cause { HasCause cause_of_stop (D.tape disk.old) (D.tape disk.new) result }
+    ensures frame { WritesUsable D.told (D.tape disk.old) (D.tape disk.new) }
     ensures alone { DiskAlone (D.tape disk.old) (D.tape disk.new) }
 {
     let mut pass = Pass::begin(disk, table)?;

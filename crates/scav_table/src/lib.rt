@@ -5,7 +5,8 @@
 //! label_check and the words of pack_model. To the layers above, on every machine:
 //! 1. The rows of a table are at most 1,024, and rise by file, page number and address (`most`, `rising`).
 //! 2. Only `sweep` takes memory. After an error a table has no rows, and the bound that it had (`empty`).
-//! 3. A pass rises from row to row, so it ends (`rises`). A fault comes only where its count rose (`cause`).
+//! 3. A pass rises from row to row, so it ends (`rises`). A fault comes only where its count rose; at each other answer the count is as it
+//!    was (`cause`).
 //!
 //! And where the machine is modelled:
 //! 4. `sweep` and `rewind` give the first 1,024 rows of the pack as it is in the call, `advance` the first 1,024 above the bound, with the

@@ -1,5 +1,5 @@
 -- A scavenge from its first record write to its last.
-use Rattle.std.proofs.Common.{◌≡◌, ◌⊎◌, inl, inr, ◌&&◌, ◌||◌, ℕ, suc, ◌/◌, ◌<◌, ◌≤◌, nat_lt, Bool, true, false, cond, max, map, not, List, [], ◌∷◌, ◌++◌, get_or, length, reverse, Option, Some, None, Result, refl, sym, ap, subst, ◌∙◌, append_assoc, arith}
+use Rattle.std.proofs.Common.{◌≡◌, ◌⊎◌, inl, inr, ◌&&◌, ◌||◌, ℕ, suc, ◌/◌, ◌<◌, ◌≤◌, nat_lt, Bool, true, false, cond, max, map, not, List, [], ◌∷◌, ◌++◌, get_or, length, reverse, Option, Some, None, Result, Ok, refl, sym, ap, subst, ◌∙◌, append_assoc, arith}
 use Rattle.std.specs.FinMap.{entries, find, get, get-entries, get-retain_keys}
 use Rattle.std.proofs.lemmas.Bool.{cases_lt}
 use Rattle.std.proofs.lemmas.List.{reverse-append}
@@ -29,7 +29,6 @@ use Rattle.scav_pages.proofs.Doing.{error_is}
 use Rattle.scavenger.specs.declared.counts.Counts.{Counts}
 use Rattle.scavenger.specs.declared.errors.Report.{Report}
 use Rattle.scavenger.specs.declared.errors.ScavError.{ScavError}
-use Rattle.scavenger.specs.Marks.{MarkOpened}
 use Rattle.scavenger.specs.Scavenges.{MendsAll}
 use Rattle.scavenger.specs.Answers.{error_of_stop, error_of_sweep, refusal_in}
 use Rattle.scav_pages.specs.declared.errors.Stop.{Stop}
@@ -64,7 +63,8 @@ use Rattle.pack_model.specs.showing.Settling.{settle, show}
 use Rattle.pack_model.specs.showing.View.{seen_of, view}
 use Rattle.pack_model.specs.states.Sound.{Clean, mark_clean}
 use Rattle.scavenger.specs.Describing.{IsDescriptorIn}
-use Rattle.scavenger.specs.Runs.{AllMend, EndsIt, ScavengeWrites}
+use Rattle.scavenger.specs.Runs.{AllMend, EndsIt, Opens, OpensMark, ScavengeWrites}
+use Rattle.scavenger.proofs.MarkPlaces.{opens_then}
 use Rattle.scavenger.specs.Runs.ScavengeWrites.{all as all_of, some as some_of}
 
 -- ---- runs
@@ -306,6 +306,7 @@ writes_end p events xs last (at ∷ rest) mends keeps unmarked mended full last_
 -- a scavenge so far, whose mark isn't clean
 pub record Midway (a b : Taped) : Type 0 where
   pub grown : Grown a b
+  pub opens : (events : List Event) → OpensMark (pack a) (added a b ++ events)
   pub mends : AllMend (pack a) (added a b)
   pub keeps : Keeps (pack a) (pack b)
   pub unmarked : Unmarked (pack b)
@@ -319,17 +320,22 @@ mid_stop {a} {b} {c} m now kept unclean = on_two m.grown now m.mends (mending (p
 pub mid_on : {a b c : Taped} → Midway a b → Grown b c → Throughout (Keeps (pack b)) (pack b) (added b c) → Throughout (λ r. Clean r → ⊥) (pack b) (added b c) → Unmarked (pack c) → Midway a c
 mid_on {a} {b} {c} m now kept unclean unmarked = record {
   grown = grown_twice m.grown now;
+  opens = λ events. subst (OpensMark (pack a)) (sym (ap (λ l. l ++ events) (added-twice m.grown now) ∙ append_assoc (added a b) (added b c) events)) (m.opens (added b c ++ events));
   mends = mid_stop m now kept unclean;
   keeps = keeps_trans (pack a) (pack b) (pack c) m.keeps (subst (Keeps (pack b)) (sym (pack-after now)) (at_end (Keeps (pack b)) (pack b) (added b c) kept));
   unmarked = unmarked;
 }
 
-pub mid_open : {a b : Taped} → Grown a b → AllMend (pack a) (added a b) → MarkOpened (pack a) (pack b) → Midway a b
-mid_open grown mends opened = record { grown = grown; mends = mends; keeps = opened.keeps; unmarked = opened.unmarked }
+pub mid_open : {a b : Taped} → Grown a b → Opens {T = Unit {0}} {E = Stop} a b (Ok tt) → Midway a b
+mid_open {a} {b} grown o = record { grown = grown; opens = λ events. opens_then (pack a) (added a b) events o.ok; mends = o.mends; keeps = o.opened.keeps; unmarked = o.opened.unmarked }
+
+-- whatever was done after that, the mark was opened first
+pub mid_opens : {a b c : Taped} → Midway a b → Grown b c → OpensMark (pack a) (added a c)
+mid_opens {a} {b} {c} m now = subst (OpensMark (pack a)) (sym (added-twice m.grown now)) (m.opens (added b c))
 
 -- it ends early
-pub ends_early : {a c : Taped} (counts : Counts) (bad : ℕ) (e : ScavError) (result : Result Report ScavError) → IsErrAnd result (λ s. s ≡ e) → refusal_in e ≡ None → ScavengeWrites (pack a) (added a c) → MendsAll counts bad a c result
-ends_early {a} {c} counts bad e result is unrefused writes = subst (MendsAll counts bad a c) (sym (error_is result is)) (record { writes = writes; done = tt; unrefused = unrefused; report = tt })
+pub ends_early : {a c : Taped} (counts : Counts) (bad : ℕ) (e : ScavError) (result : Result Report ScavError) → IsErrAnd result (λ s. s ≡ e) → refusal_in e ≡ None → OpensMark (pack a) (added a c) → ScavengeWrites (pack a) (added a c) → MendsAll counts bad a c result
+ends_early {a} {c} counts bad e result is unrefused opens writes = subst (MendsAll counts bad a c) (sym (error_is result is)) (record { opens = opens; writes = writes; done = tt; unrefused = unrefused; report = tt })
 
 pub of_stop : (s : Stop) → refusal_in (error_of_stop s) ≡ None
 of_stop stop.DiskFault = refl

@@ -11,6 +11,7 @@ use Rattle.disk_records.specs.Commands.{value_writes}
 use Rattle.disk_records.specs.Events.{IsFirstOf}
 use Rattle.disk_records.specs.declared.records.Event.{Event}
 use Rattle.disk_records.specs.declared.records.Event.TheVariants.{Wrote}
+use Rattle.disk_records.specs.declared.records.Sector.{Sector}
 use Rattle.disk_records.specs.declared.shape.Shape.{Shape}
 use Rattle.disk_records.specs.Labels.{tag}
 use Rattle.disk_records.specs.Packs.{Pack, after, carried, is_usable, sector_at, with_part}
@@ -35,16 +36,16 @@ use Rattle.pack_model.specs.reading.Sights.{Sight, page_sight, sight, sights}
 use Rattle.pack_model.specs.reading.Sights.Sight.{hidden}
 use Rattle.pack_model.specs.scavenger.Reports.{adopted_files, freed_sectors}
 use Rattle.pack_model.specs.scavenger.Scavenging.{Keeps, Mends}
-use Rattle.pack_model.specs.sessions.Descriptor.{data_pages}
+use Rattle.pack_model.specs.sessions.Descriptor.{data_pages, opened_value}
 use Rattle.pack_model.specs.showing.Settling.{given_names}
 use Rattle.pack_model.specs.states.InUse.{counts, how_many, in_use, is_available, is_free_sight, is_good, is_place, is_within, of_page, one_if}
 use Rattle.scavenger.specs.Descriptors.{mark_sector}
 use Rattle.scavenger.specs.Marks.{MarkOpened}
-use Rattle.scavenger.specs.Runs.{AllMend, Opens}
+use Rattle.scavenger.specs.Runs.{AllMend, Opens, mark_writes}
 use Rattle.disk_records.specs.Tapes.{Grown, Taped, added, pack}
 use Rattle.disk_records.proofs.Growing.{added-twice, grown_twice, nothing_added, pack-after}
 use Rattle.scav_pages.specs.declared.errors.Stop.{Stop}
-use Rattle.scavenger.proofs.MarkPlaces.{no_mark_sector}
+use Rattle.scavenger.proofs.MarkPlaces.{mark_writes_at, no_mark_sector, no_mark_writes, word_put}
 
 -- ---- sectors that are free or in use alike
 record IsAlike (s t : Sight) : Type 0 where
@@ -156,19 +157,37 @@ mark_absent p none = record {
 pub opened_mark : (value : List ℕ) → length value ≡ 256 → word (set value 6 2) 6 ≢ 1
 opened_mark value size is = let two = get_or-set_same value 6 2 0 (omega (arith, size)) in omega (arith, two, is)
 
+-- and no other word changes
+pub only_mark : {buffer sector : Sector} → length buffer.value ≡ 256 → buffer ≡ sector → set buffer.value 6 2 ≡ opened_value sector.value
+only_mark {buffer} size holds = word_put 6 2 buffer.value (omega (arith, size)) ∙ ap (λ (s : Sector). opened_value s.value) holds
+
 -- ---- on a machine
 pub opens_none : (a : Taped) → mark_sector (pack a) ≡ 0 → Opens {T = Unit {0}} {E = Stop} a a (Ok tt)
-opens_none a none = record { mends = subst (AllMend (pack a)) (sym (nothing_added a.events)) tt; opened = mark_absent (pack a) none }
+opens_none a none = record {
+  some = subst (IsFirstOf (mark_writes (pack a))) (sym (nothing_added a.events)) tt;
+  ok = nothing_added a.events ∙ sym (no_mark_writes (pack a) none);
+  mends = subst (AllMend (pack a)) (sym (nothing_added a.events)) tt;
+  opened = mark_absent (pack a) none;
+}
 
-pub opens_wrote : {a b c : Taped} (result : Result (Unit {0}) Stop) (at : ℕ) (value : List ℕ) → Grown a b → Grown b c → added a b ≡ [] → carried (pack a) at ≡ Some (record { fid = disk_descriptor; number = 1 }) → place (sights (pack a)) disk_descriptor 1 ≡ Some at → word value 6 ≢ 1
+pub opens_wrote : {a b c : Taped} (result : Result (Unit {0}) Stop) (at : ℕ) (value : List ℕ) → Grown a b → Grown b c → added a b ≡ [] → carried (pack a) at ≡ Some (record { fid = disk_descriptor; number = 1 }) → place (sights (pack a)) disk_descriptor 1 ≡ Some at → value ≡ opened_value (sector_at (pack a) at).value → word value 6 ≢ 1
     → IsFirstOf (value_writes at value) (added b c) → OnOk result (added b c ≡ value_writes at value) → Opens a c result
-opens_wrote {a} {b} {c} result at value before now silent here placed other first done = record {
+opens_wrote {a} {b} {c} result at value before now silent here placed is other first done = record {
+  some = subst (IsFirstOf (mark_writes (pack a))) (sym same) (subst (λ l. IsFirstOf l (added b c)) (sym all) first);
+  ok = whole result done;
   mends = subst (AllMend (pack a)) (sym same) (mark_mends (pack a) at value here placed other (added b c) first);
   opened = by result done;
 }
   where
     same : added a c ≡ added b c
     same = added-twice before now ∙ ap (λ l. l ++ added b c) silent
+
+    all : mark_writes (pack a) ≡ value_writes at value
+    all = mark_writes_at (pack a) at placed ∙ ap (value_writes at) (sym is)
+
+    whole : (r : Result (Unit {0}) Stop) → OnOk r (added b c ≡ value_writes at value) → OnOk r (added a c ≡ mark_writes (pack a))
+    whole (Ok v) wrote = same ∙ wrote ∙ sym all
+    whole (Err e) wrote = tt
 
     by : (r : Result (Unit {0}) Stop) → OnOk r (added b c ≡ value_writes at value) → OnOk r (MarkOpened (pack a) (pack c))
     by (Ok v) wrote = subst (MarkOpened (pack a)) (sym (pack-after (grown_twice before now) ∙ ap (after (pack a)) (same ∙ wrote))) (mark_opened (pack a) at value here placed other)

@@ -21,13 +21,13 @@ use Rattle.scavenger.specs.declared.errors.Report.{Report}
 use Rattle.scavenger.specs.declared.errors.ScavError.{ScavError}
 use Rattle.scavenger.specs.declared.errors.ScavError.TheVariants.{RootBad, RootTaken, PackFull, DiskFault, Memory}
 use Rattle.std.specs.Prelude.{IsErrAnd}
-use Rattle.disk_records.specs.Causes.{HasCause}
+use Rattle.disk_records.specs.Causes.{HasCause, Unfailed}
 use Rattle.disk_records.specs.Tapes.{Grown}
 use Rattle.disk_records.proofs.Growing.{added-twice, pack-silent}
 use Rattle.scav_pages.proofs.Doing.{error_is}
 use Rattle.scavenger.specs.Answers.{Answers, IsRefusal, cause_of_scav, refusal_in, report_in}
 use Rattle.scavenger.specs.Counting.{Counted}
-use Rattle.scavenger.specs.Runs.{AllMend, EndsIt, ScavengeWrites}
+use Rattle.scavenger.specs.Runs.{AllMend, EndsIt, OpensMark, ScavengeWrites}
 use Rattle.scavenger.specs.Runs.ScavengeWrites.{all as all_of, some as some_of}
 use Rattle.scavenger.specs.Scavenges.{IsSafe, IsUnrefused, MendsAll, Scavenges}
 
@@ -75,6 +75,7 @@ scavenges_none {a} {b} e silent answers = record {
   answers = answers;
   silent = λ r is. silent;
   safe = safe_writes (pack a) (added a b) none;
+  opens = subst (OpensMark (pack a)) (sym silent) tt;
   writes = none;
   done = tt;
 }
@@ -104,6 +105,7 @@ scavenges_all {a} {b} counts bad result none counted bad_is mends = record {
   answers = answer result mends.unrefused mends.report;
   silent = λ r is. absurd (let both : None ≡ Some r = sym none ∙ is in cc);
   safe = safe_writes (pack a) (added a b) mends.writes;
+  opens = mends.opens;
   writes = mends.writes;
   done = mends.done;
 }
@@ -116,17 +118,17 @@ scavenges_all {a} {b} counts bad result none counted bad_is mends = record {
 pub stops_none : {a b : Taped} (e : ScavError) (result : Result Report ScavError) → IsErrAnd result (λ s. s ≡ e) → added a b ≡ [] → refusal_in e ≡ None → Scavenges a b result
 stops_none {a} {b} e result is silent unrefused = subst (Scavenges a b) (sym (error_is result is)) (scavenges_none e silent (unrefused_answers (pack a) e unrefused))
 
--- a refusal has no cause in a device
-pub refusal_cause : (a b : Taped) (e : ScavError) → IsRefusal e → HasCause {T = Report} cause_of_scav a b (Err e)
-refusal_cause a b (RootBad header) is = tt
-refusal_cause a b (RootTaken found) is = tt
-refusal_cause a b (PackFull needed free) is = tt
-refusal_cause a b DiskFault is = absurd is
-refusal_cause a b Memory is = absurd is
+-- a refusal has no cause in a device, after calls in which no fault came
+pub refusal_cause : (a b : Taped) (e : ScavError) → Unfailed a b → IsRefusal e → HasCause {T = Report} cause_of_scav a b (Err e)
+refusal_cause a b (RootBad header) none is = none
+refusal_cause a b (RootTaken found) none is = none
+refusal_cause a b (PackFull needed free) none is = none
+refusal_cause a b DiskFault none is = absurd is
+refusal_cause a b Memory none is = absurd is
 
 -- a mending after calls that wrote nothing
 pub scavenges_after : {a b c : Taped} (counts : Counts) (bad : ℕ) (result : Result Report ScavError) → Grown a b → Grown b c → added a b ≡ [] → first_refusal (pack a) ≡ None → Counted (pack a) counts → bad ≡ bad_sectors (sights (pack a)) → (Scavengeable (pack b) → Counted (pack b) counts → MendsAll counts bad b c result) → Scavenges a c result
-scavenges_after {a} {b} {c} counts bad result before now silent none counted bad_is mends = scavenges_all counts bad result none counted bad_is (record { writes = subst (ScavengeWrites (pack a)) (sym same) (subst (λ q. ScavengeWrites q (added b c)) here m.writes); done = by result m.done; unrefused = m.unrefused; report = reports result m.report })
+scavenges_after {a} {b} {c} counts bad result before now silent none counted bad_is mends = scavenges_all counts bad result none counted bad_is (record { opens = subst (OpensMark (pack a)) (sym same) (subst (λ q. OpensMark q (added b c)) here m.opens); writes = subst (ScavengeWrites (pack a)) (sym same) (subst (λ q. ScavengeWrites q (added b c)) here m.writes); done = by result m.done; unrefused = m.unrefused; report = reports result m.report })
   where
     here : pack b ≡ pack a
     here = pack-silent before silent

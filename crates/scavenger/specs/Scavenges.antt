@@ -13,7 +13,7 @@ use Rattle.scavenger.specs.declared.counts.Counts.{Counts}
 use Rattle.scavenger.specs.declared.errors.Report.{Report}
 use Rattle.scavenger.specs.declared.errors.ScavError.{ScavError}
 use Rattle.scavenger.specs.Answers.{Answers, refusal_in, report_in}
-use Rattle.scavenger.specs.Runs.{EndsIt, ScavengeWrites}
+use Rattle.scavenger.specs.Runs.{EndsIt, OpensMark, ScavengeWrites}
 
 -- ---- crash points
 -- At the crash point after k of the events: what is shown is as before; a pack that could be scavenged can be; with a record write it is
@@ -24,12 +24,13 @@ pub record IsSafe (p : Pack) (events : List Event) (k : ℕ) : Type 0 where
   pub clean : 0 < writes_in (take k events) → Clean (crash p events k) → Sound (crash p events k)
 
 -- ---- the call
--- The answer is that of the pack; a pack that is refused isn't written; every crash point is safe; the record writes are those of a scavenge, at Ok
--- all of them.
+-- The answer is that of the pack; a pack that is refused isn't written; every crash point is safe; the mark is opened first, as a session does it;
+-- the record writes are those of a scavenge, at Ok all of them.
 pub record Scavenges (old new : Taped) (result : Result Report ScavError) : Type 0 where
   pub answers : Answers (pack old) result
   pub silent : (r : Refusal) → first_refusal (pack old) ≡ Some r → added old new ≡ []
   pub safe : (k : ℕ) → IsSafe (pack old) (added old new) k
+  pub opens : OpensMark (pack old) (added old new)
   pub writes : ScavengeWrites (pack old) (added old new)
   pub done : OnOk result (EndsIt (pack old) (added old new))
 
@@ -40,6 +41,7 @@ IsUnrefused (Err error) = refusal_in error ≡ None
 
 -- Its work on a pack that can be scavenged, of which these are the counts, and of which so many sectors are bad.
 pub record MendsAll (counts : Counts) (bad : ℕ) (old new : Taped) (result : Result Report ScavError) : Type 0 where
+  pub opens : OpensMark (pack old) (added old new)
   pub writes : ScavengeWrites (pack old) (added old new)
   pub done : OnOk result (EndsIt (pack old) (added old new))
   pub unrefused : IsUnrefused result

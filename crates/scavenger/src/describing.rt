@@ -1,6 +1,7 @@
 // DiskDescriptor's words, of a pack whose pages and names are mended.
 ghost use Rattle.std.specs.Prelude.{◌≡◌, ℕ, List, IsTrue, IsErrOf};
 ghost use Rattle.disk_records.specs.Causes.{HasCause};
+ghost use Rattle.disk_records.specs.Frames.{WritesUsable};
 ghost use Rattle.disk_records.specs.Tapes.{DiskAlone, pack};
 ghost use Rattle.pack_model.specs.hints.Tables.{free_table};
 ghost use Rattle.scav_pages.specs.Stops.{cause_of_stop};
@@ -32,6 +33,7 @@ pub(crate) fn describe<D: Disk>(alloc: Global, disk: &mut D, last: u32) -> Resul
     ensures closes { IsTrue D.told → (pages : List ℕ) → IsDescriptorIn (pack (D.tape disk.old)) pages → Closes last (free_table (pack (D.tape disk.old))) pages (D.tape disk.old) (D.tape disk.new) result }
     ensures found { IsTrue D.told → (pages : List ℕ) → IsDescriptorIn (pack (D.tape disk.old)) pages → IsErrOf result Stop.Astray → ⊥ }
     ensures cause { HasCause cause_of_stop (D.tape disk.old) (D.tape disk.new) result }
+    ensures frame { WritesUsable D.told (D.tape disk.old) (D.tape disk.new) }
     ensures alone { DiskAlone (D.tape disk.old) (D.tape disk.new) }
 {
     let map = map_sectors(alloc, disk)?;

@@ -1,8 +1,8 @@
 //! What a scavenge is in a session: each law is what a function of its name ensures. The functions do nothing.
 ghost use Rattle.scavenger.specs.Turning.{FirstLineMayScavenge, ScavengeIsATurn};
 
-/// A scavenge that a line of a session asks for is the turn over that line: at Ok a whole one once its report is shown, and else one that
-/// broke off, after any prefix of its record writes, all of them too. It isn't refused there.
+/// A scavenge that a line of a session asks for isn't refused, and is the turn over that line: at Ok a whole one once its report is shown,
+/// else one that broke off, after any prefix of its record writes, all of them too.
 pub fn scavenge_is_a_turn()
     ensures { ScavengeIsATurn }
 {}

@@ -10,12 +10,13 @@
 //!    clean with a record write only if it is sound (`safe`).
 //! 3. At Ok the pack is sound and clean, all its hints are true, its last serial is the one of the rule, and as many sectors are free as were
 //!    available less those that were needed (`done`); the report is that of the pack before (`answers`).
-//! 4. Its record writes are those of a scavenge in a session: from the first on each crash point keeps what a scavenge keeps with a mark that
-//!    isn't clean, and the last one, if it came to that, ends it (`writes`).
+//! 4. Its record writes are those of a scavenge in a session: the first opens the mark as a session does (`opens`); from it on each crash point
+//!    keeps what a scavenge keeps with a mark that isn't clean, and the last one, if it came to that, ends it (`writes`). Sector 0 and each
+//!    sector with a wrong header keep all of their records, and every other sector its header (`frame`).
 //! 5. If a line of a session asks for it, it is the turn over that line: at Ok a whole one once its report is shown, else one that broke off
 //!    (`laws`).
 //!
-//! On every machine a fault is answered only if its count rose (`cause`).
+//! On every machine a fault is answered only if its count rose, and at each other answer the count is as it was (`cause`).
 //! Not promised: that memory is left; how long it takes. On a machine that isn't modelled, a sector that shows another page than a moment ago
 //! ends the work early, as out of memory.
 #![tactic(auto)]

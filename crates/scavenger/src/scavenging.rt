@@ -2,6 +2,7 @@
 ghost use Rattle.std.specs.Prelude.{◌≡◌, ◌<◌, IsTrue};
 ghost use Rattle.disk_records.specs.Addresses.{pages_of};
 ghost use Rattle.disk_records.specs.Causes.{HasCause};
+ghost use Rattle.disk_records.specs.Frames.{WritesUsable};
 ghost use Rattle.disk_records.specs.Tapes.{DiskAlone, pack};
 ghost use Rattle.pack_model.specs.scavenger.Scavenging.{Scavengeable};
 ghost use Rattle.scavenger.specs.Answers.{cause_of_scav};
@@ -21,10 +22,12 @@ use scav_table::{Table, sweep};
 use std::alloc::Global;
 
 /// Makes any pack that it doesn't refuse, whatever stands on it, sound and clean, with all its hints true, and answers a report of what was
-/// found and done. What is shown stays at each crash point, and a scavenge that stopped can be done again.
+/// found and done. What is shown stays at each crash point, and a scavenge that stopped can be done again. Whatever the answer, sector 0 and each
+/// sector with a wrong header keep all of their records, and every other sector its header.
 ///
-/// First it opens the mark, then it mends the pages and the names, and last it writes DiskDescriptor with the clean mark. The last serial is the
-/// greatest of those of living files and of the old one, where the old DiskDescriptor says this shape, or one drive with as many cylinders.
+/// First it opens the mark, then it mends the pages and the names, and last it writes DiskDescriptor with the clean mark. The device has taken
+/// the open mark before anything else is written, and all else before the clean one. The last serial is the greatest of those of living files and
+/// of the old one, where the old DiskDescriptor says this shape, or one drive with as many cylinders.
 ///
 /// RootBad, RootTaken, PackFull, in this order: the pack can't be scavenged, and nothing was written. DiskFault: the disk failed. Memory: none
 /// was left; or, on a disk that isn't modelled, a sector shows another page than a moment ago while pages are counted, pages or names are mended
@@ -32,6 +35,7 @@ use std::alloc::Global;
 pub fn scavenge<D: Disk>(alloc: Global, disk: &mut D) -> Result<Report, ScavError>
     ensures scavenges { IsTrue D.told → Scavenges (D.tape disk.old) (D.tape disk.new) result }
     ensures cause { HasCause cause_of_scav (D.tape disk.old) (D.tape disk.new) result }
+    ensures frame { WritesUsable D.told (D.tape disk.old) (D.tape disk.new) }
     ensures alone { DiskAlone (D.tape disk.old) (D.tape disk.new) }
 {
     let mut table = sweep(alloc, disk)?;
@@ -54,6 +58,7 @@ fn mend<D: Disk>(
     requires mark { counts.now.mark_at < pages_of (D.tape disk.old).form }
     ensures mends { IsTrue D.told → Scavengeable (pack (D.tape disk.old)) → Counted (pack (D.tape disk.old)) counts.now → MendsAll counts.now bad (D.tape disk.old) (D.tape disk.new) result }
     ensures cause { HasCause cause_of_scav (D.tape disk.old) (D.tape disk.new) result }
+    ensures frame { WritesUsable D.told (D.tape disk.old) (D.tape disk.new) }
     ensures alone { DiskAlone (D.tape disk.old) (D.tape disk.new) }
 {
     open_mark(disk, counts.mark_at)?;

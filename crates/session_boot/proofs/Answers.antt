@@ -24,7 +24,7 @@ use Rattle.executive.specs.pack_model.specs.sessions.Turns.{Turn}
 use Rattle.session_model.specs.Answering.{Answers, IsAnswer, Replied, TakesTurn, TakesTurns, TellsWrites, count_end, reply_of, reply_unless}
 use Rattle.session_model.specs.Keeping.{Kept, Keeping}
 use Rattle.session_model.specs.Replies.{refusal as refusal_to, reply_to, unless_refused}
-use Rattle.session_model.specs.Turning.{Cue, IsTakenUp, State, TurnKind, asks_scavenge, closes, cue_for, cue_moves, cue_text, cue_world, ended, failed, is_quit, is_scavenge, plain, scavenged, turn_of, typed}
+use Rattle.session_model.specs.Turning.{Cue, aside, IsTakenUp, State, TurnKind, asks_scavenge, closes, cue_for, cue_moves, cue_text, cue_world, ended, failed, is_quit, is_scavenge, plain, scavenged, turn_of, typed}
 use Rattle.session_model.specs.Worlds.{World}
 use Rattle.session_boot.specs.Faults.{HasShowCause}
 use Rattle.session_boot.specs.Keys.{ShownAll}
@@ -91,6 +91,7 @@ quits reply.Memory = false
 
 abbrev pub over_of : Cue → Reply → Bool
 over_of (typed l) r = quits r
+over_of (aside text) r = false
 over_of ended r = true
 
 typed_over : (o : Option Refusal) (b : Bool) (text : List ℕ) → unless_refused o b false ≡ quits (reply_unless o (cond b reply.Quit (reply.Done text)))
@@ -100,10 +101,13 @@ typed_over (Some x) b text = refl
 
 kind_over : {p : Pack} {s : State} {cue : Cue} {wrote : List Event} {made : Turn Move} {world : World} {over : Bool} (k : TurnKind p s cue wrote made world over) → over ≡ over_of cue (reply_of k)
 kind_over {s = s} {cue = typed l} (plain asks) = typed_over (refusal_to l s.model s.world) (is_quit l) (reply_to l s.model s.world)
+kind_over {cue = aside text} (plain asks) = refl
 kind_over {cue = ended} (plain asks) = refl
 kind_over {cue = typed l} (failed moves f start) = refl
+kind_over {cue = aside text} (failed moves f start) = refl
 kind_over {cue = ended} (failed moves f start) = refl
 kind_over {cue = typed l} (scavenged quiets n asks) = refl
+kind_over {cue = aside text} (scavenged quiets n asks) = cc
 kind_over {cue = ended} (scavenged quiets n asks) = cc
 
 pub next_over : (r : Reply) (next : Next) → next_after r ≡ Ok next → quits r ≡ is_over next

@@ -1,5 +1,5 @@
 -- A pack that is opened, or isn't, and then the session.
-use Rattle.std.proofs.Common.{◌≡◌, ◌⊎◌, ◌==◌, ◌≤◌, Bool, arith, true, false, ℕ, List, [], ◌++◌, Option, Some, None, inl, inr, refl, sym, subst, ap, ◌∙◌, eq-eqb}
+use Rattle.std.proofs.Common.{◌≡◌, ◌⊎◌, ◌==◌, Bool, true, false, ℕ, List, [], ◌++◌, Option, Some, None, inl, inr, refl, sym, subst, ap, ◌∙◌, eq-eqb}
 use Rattle.std.proofs.lemmas.Bool.{ne_eqb}
 use Rattle.alto_words.specs.declared.fid.Fid.{Fid}
 use Rattle.executive.specs.disk_descriptor.specs.declared.errors.OpenError.{OpenError}
@@ -7,7 +7,7 @@ use Rattle.executive.specs.disk_descriptor.specs.declared.errors.OpenError.TheVa
 use Rattle.disk_records.specs.declared.records.Event.{Event}
 use Rattle.disk_records.specs.declared.records.Tally.{Tally}
 use Rattle.disk_records.specs.Packs.{AreFormed, Pack}
-use Rattle.disk_records.specs.Causes.{IsCause}
+use Rattle.disk_records.specs.Causes.{IsCause, Unfailed}
 use Rattle.disk_records.specs.Tapes.{DiskAlone, Grown, Rose, ShowAlone, Taped, added, pack}
 use Rattle.disk_records.proofs.Growing.{added-twice}
 use Rattle.exec_session.specs.Opens.{MayMislead, Refuses, cause_of_open}
@@ -28,13 +28,14 @@ use Rattle.session_model.specs.Keeping.{Kept}
 use Rattle.session_model.specs.Opening.{Unready, bad_descriptor, no_descriptor, no_root, not_clean, system_files, unless_so, unready, unready_text, wrong_length}
 use Rattle.session_model.specs.Turning.{Cue, HintFailing, State, opening}
 use Rattle.session_boot.specs.Boots.{AnswersBoot, Booted, Boots, DoesntEnter, EndsAs, LastsTo, NamesHint, NoneRose, TellsInOrder, TellsMark}
-use Rattle.session_boot.specs.Faults.{HasStatusCause, cause_of_fault, status_of, status_of_need, stop_of, stop_of_need}
-use Rattle.session_boot.specs.Opening.{IsReason, Refused, ShowsReason, reason}
+use Rattle.session_boot.specs.Faults.{HasStatusCause, NoFault, UnlessStopped, cause_of_fault, status_of, status_of_need, stop_of, stop_of_need}
+use Rattle.session_boot.specs.Opening.{IsNoDiskFault, IsReason, Refused, ShowsReason, reason}
 use Rattle.session_boot.specs.declared.status.Fault.{Fault}
 use Rattle.session_boot.specs.declared.status.Fault.TheVariants.{Disk, Key, Display, Memory}
 use Rattle.session_boot.specs.declared.status.Status.{Status}
 use Rattle.session_boot.specs.declared.status.Status.TheVariants as status
 use Rattle.session_boot.proofs.SoFar.{unfailed_need}
+use Rattle.session_boot.proofs.Unfailing.{fault_after, none_of_disk, none_twice}
 
 -- ---- a sound and clean pack is ready
 pub sound_once : (p : Pack) → Sound p → EachOnce (sights p)
@@ -220,28 +221,64 @@ pub failed_boots : (moment : ℕ) (x z : Taped) (given tally : Tally) (fault : F
 failed_boots moment x z given tally fault l = fault_ends fault (λ stop. BootOf moment x z given tally stop) (lasts_boot l)
 
 -- ---- causes
-later_rose : (a b n : ℕ) → a ≤ b → Rose b n → Rose a n
-later_rose a b n less rose = omega (arith, less, rose)
+-- where the reason isn't a fault of the disk, none came
+none_of_reason : (x y : Taped) (e : OpenError) → IsNoDiskFault e → IsCause x y (cause_of_open e) → Unfailed x y
+none_of_reason x y (error.NoRoot found) other cause = cause
+none_of_reason x y error.NoDescriptor other cause = cause
+none_of_reason x y (error.WrongLength size) other cause = cause
+none_of_reason x y (error.BadDescriptor word found) other cause = cause
+none_of_reason x y (error.NotClean mark) other cause = cause
+none_of_reason x y (error.Misled place at wanted found) other cause = cause
+none_of_reason x y error.DiskFault other cause = absurd other
+none_of_reason x y error.Memory other cause = cause
 
-pub refused_cause : (x y z : Taped) (e : OpenError) (answer : Status) → DiskAlone x y → ShowAlone y z → IsCause x y (cause_of_open e) → Refused e y z answer → HasStatusCause x z answer
-refused_cause x y z e status.Done first second cause refused = tt
-refused_cause x y z e status.Usage first second cause refused = tt
-refused_cause x y z e status.NeedsScavenge first second cause refused = tt
-refused_cause x y z e status.DiskFault first second cause refused = subst (Rose x.disk_faults) (sym second.disk_faults) (subst (λ f. IsCause x y (cause_of_open f)) refused cause)
-refused_cause x y z e status.KeyFault first second cause refused = absurd refused
-refused_cause x y z e status.DisplayFault first second cause refused = subst (λ n. Rose n z.show_faults) first.show_faults refused.1
-refused_cause x y z e status.Memory first second cause refused = tt
-refused_cause x y z e status.CannotScavenge first second cause refused = absurd refused
+reason_is_no_fault : (e : OpenError) → IsReason e → IsNoDiskFault e
+reason_is_no_fault (error.NoRoot found) is = tt
+reason_is_no_fault error.NoDescriptor is = tt
+reason_is_no_fault (error.WrongLength size) is = tt
+reason_is_no_fault (error.BadDescriptor word found) is = tt
+reason_is_no_fault (error.NotClean mark) is = tt
+reason_is_no_fault (error.Misled place at wanted found) is = tt
+reason_is_no_fault error.DiskFault is = absurd is
+reason_is_no_fault error.Memory is = absurd is
 
-pub need_cause : (x z : Taped) (b : Bool) → HasStatusCause x z (status_of_need b)
-need_cause x z false = tt
-need_cause x z true = tt
+module _ (x y z : Taped) (e : OpenError) (first : DiskAlone x y) (second : ShowAlone y z) (cause : IsCause x y (cause_of_open e)) where
+  none : IsNoDiskFault e → Unfailed x z
+  none other = second.disk_faults ∙ none_of_reason x y e other cause
 
-pub fault_cause : (x y z : Taped) (fault : Fault) → Grown x y → IsCause y z (cause_of_fault fault) → HasStatusCause x z (status_of fault)
-fault_cause x y z Disk grown cause = later_rose x.disk_faults y.disk_faults z.disk_faults grown.disk_faults cause
-fault_cause x y z Key grown cause = later_rose x.key_faults y.key_faults z.key_faults grown.key_faults cause
-fault_cause x y z Display grown cause = later_rose x.show_faults y.show_faults z.show_faults grown.show_faults cause
-fault_cause x y z Memory grown cause = tt
+  pub refused_cause : (answer : Status) → Refused e y z answer → HasStatusCause x z answer
+  refused_cause status.Done refused = absurd refused
+  refused_cause status.Usage refused = absurd refused
+  refused_cause status.NeedsScavenge refused = none (reason_is_no_fault e refused)
+  refused_cause status.DiskFault refused = subst (Rose x.disk_faults) (sym second.disk_faults) (subst (λ f. IsCause x y (cause_of_open f)) refused cause)
+  refused_cause status.KeyFault refused = absurd refused
+  refused_cause status.DisplayFault refused = subst (λ n. Rose n z.show_faults) first.show_faults refused.1
+  refused_cause status.Memory refused = none refused
+  refused_cause status.CannotScavenge refused = absurd refused
+
+  pub refused_unfailed : (answer : Status) → Refused e y z answer → UnlessStopped answer (NoFault y z) → UnlessStopped answer (NoFault x z)
+  refused_unfailed status.Done refused after = absurd refused
+  refused_unfailed status.Usage refused after = absurd refused
+  refused_unfailed status.NeedsScavenge refused after = none_twice (none_of_disk first (none_of_reason x y e (reason_is_no_fault e refused) cause)) after
+  refused_unfailed status.DiskFault refused after = tt
+  refused_unfailed status.KeyFault refused after = tt
+  refused_unfailed status.DisplayFault refused after = tt
+  refused_unfailed status.Memory refused after = tt
+  refused_unfailed status.CannotScavenge refused after = absurd refused
+
+pub need_cause : (x z : Taped) (b : Bool) → NoFault x z → HasStatusCause x z (status_of_need b)
+need_cause x z false none = none.disk
+need_cause x z true none = none.disk
+
+pub need_unfailed : (holds : Type 0) (b : Bool) → holds → UnlessStopped (status_of_need b) holds
+need_unfailed holds false is = is
+need_unfailed holds true is = is
+
+pub fault_cause : (x y z : Taped) (fault : Fault) → NoFault x y → IsCause y z (cause_of_fault fault) → HasStatusCause x z (status_of fault)
+fault_cause x y z Disk none cause = fault_after z Disk none cause
+fault_cause x y z Key none cause = fault_after z Key none cause
+fault_cause x y z Display none cause = fault_after z Display none cause
+fault_cause x y z Memory none cause = fault_after z Memory none cause
 
 pub need_answers : (b : Bool) → AnswersBoot (status_of_need b)
 need_answers false = tt

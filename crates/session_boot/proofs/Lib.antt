@@ -11,3 +11,5 @@ pub mod Looping
 pub mod Nexts
 pub mod SoFar
 pub mod Typing
+pub mod Unfailing
+pub mod Unread

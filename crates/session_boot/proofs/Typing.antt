@@ -6,7 +6,7 @@ use Rattle.std.proofs.lemmas.Bool.{cases_lt}
 use Rattle.disk_records.specs.Tapes.{IsUnbroken}
 use Rattle.session_boot.specs.declared.keys.Piece.{Piece}
 use Rattle.session_boot.specs.declared.keys.Piece.TheVariants.{End, Part, Last}
-use Rattle.session_boot.specs.Keys.{kept_of, TookEnded, TookRest, TookLast, TookSome, TookPiece}
+use Rattle.session_boot.specs.Keys.{IfPart, kept_of, TookEnded, TookRest, TookLast, TookSome, TookPiece}
 
 -- ---- the first n of some keys
 -- keys after the first n of some are dropped, or all of them are there
@@ -43,9 +43,12 @@ last_key : (buf : List ℕ) (n : ℕ) → 0 < n → n ≤ length buf → take n 
 last_key buf n some within = subst (λ m. take m buf ≡ take (n - 1) buf ++ get_or buf (n - 1) 0 ∷ []) (omega arith) (take_more buf (n - 1) 0 (omega arith))
 
 -- the last of n keys doesn't end the line
+pub unbroken_part : (buf : List ℕ) (n : ℕ) → 0 < n → n ≤ length buf → get_or buf (n - 1) 0 ≢ 10 → IsUnbroken (take (n - 1) buf) → IsUnbroken (take n buf)
+unbroken_part buf n some within other unbroken = rw (last_key buf n some within) (unbroken_more (take (n - 1) buf) _ unbroken (other, tt))
+
 pub piece_part : (buf : List ℕ) (n : ℕ) {old new : List ℕ} → 0 < n → n ≤ length buf → get_or buf (n - 1) 0 ≢ 10 → old ≡ take n buf ++ new → IsUnbroken (take (n - 1) buf) → TookSome old new (take n buf)
 piece_part buf n some within other split unbroken =
-    record { unbroken = rw (last_key buf n some within) (unbroken_more (take (n - 1) buf) _ unbroken (other, tt)); split = split }
+    record { unbroken = unbroken_part buf n some within other unbroken; split = split }
 
 -- ---- a line that is being taken
 -- so many keys are left of those that count, and this much of the line is kept
@@ -123,6 +126,9 @@ took_end {old} {new} buf is t = subst (λ p. TookPiece old new buf (Ok p)) is t
 
 pub took_some : {piece : Piece} {old new : List ℕ} (buf : List ℕ) {count : ℕ} → piece ≡ Part count → TookPiece old new buf (Ok piece) → TookSome old new (take count buf)
 took_some {old} {new} buf is t = subst (λ p. TookPiece old new buf (Ok p)) is t
+
+pub went_on : {piece : Piece} {count : ℕ} {holds : Type 0} → piece ≡ Part count → IfPart (Ok piece) holds → holds
+went_on {piece} {count} {holds} is h = subst (λ p. IfPart (Ok p) holds) is h
 
 pub took_last : {piece : Piece} {old new : List ℕ} (buf : List ℕ) {count : ℕ} → piece ≡ Last count → TookPiece old new buf (Ok piece) → TookSome old (10 ∷ new) (take count buf)
 took_last {old} {new} buf is t = subst (λ p. TookPiece old new buf (Ok p)) is t

@@ -1,6 +1,6 @@
 -- Faults by their causes: each but out of memory has its own count risen.
 use Rattle.std.specs.Prelude.{◌≡◌, ◌⊎◌, Bool, true, false, Result}
-use Rattle.disk_records.specs.Causes.{Cause, disk, keyboard, display, other, IsCause, HasCause, of_keyboard, of_display}
+use Rattle.disk_records.specs.Causes.{Cause, disk, keyboard, display, other, IsCause, HasCause, Unfailed, of_keyboard, of_display}
 use Rattle.disk_records.specs.Tapes.{Taped, Rose}
 use Rattle.session_model.specs.Ending.{Stop, done, needs_scavenge, disk_failed, display_failed, keys_failed, no_memory}
 use Rattle.session_boot.specs.declared.status.Fault.{Fault}
@@ -38,9 +38,9 @@ HasKeyCause old new result = HasCause (λ fault. of_keyboard (cause_of_fault fau
 abbrev pub HasShowCause : {T : Type 0} → Taped → Taped → Result T Fault → Type 0
 HasShowCause old new result = HasCause (λ fault. of_display (cause_of_fault fault)) old new result
 
--- what is answered once the disk has handed on what it held back: the answer meant, or where that failed this fault of the disk
+-- what is answered once the disk has handed on what it held back: the answer meant, where no fault of the disk came, or this fault of it
 abbrev pub IsSameOrFailed : {T : Type 0} → T → Taped → Taped → T → T → Type 0
-IsSameOrFailed fault old new meant result = (result ≡ meant) ⊎ ((result ≡ fault) × Rose old.disk_faults new.disk_faults)
+IsSameOrFailed fault old new meant result = ((result ≡ meant) × Unfailed old new) ⊎ ((result ≡ fault) × Rose old.disk_faults new.disk_faults)
 
 -- a fact that holds unless a fault or out of memory is answered
 abbrev pub UnlessStopped : Status → Type 0 → Type 0
@@ -52,6 +52,12 @@ UnlessStopped status.KeyFault holds = Unit {0}
 UnlessStopped status.DisplayFault holds = Unit {0}
 UnlessStopped status.Memory holds = Unit {0}
 UnlessStopped status.CannotScavenge holds = holds
+
+-- no fault of a device came: each count is as it was
+pub record NoFault (old new : Taped) : Type 0 where
+  pub disk : Unfailed old new
+  pub keys : new.key_faults ≡ old.key_faults
+  pub display : new.show_faults ≡ old.show_faults
 
 abbrev pub HasStatusCause : Taped → Taped → Status → Type 0
 HasStatusCause old new answer = IsCause old new (cause_of_status answer)

@@ -25,6 +25,13 @@ FitsIn most End = Unit {0}
 FitsIn most (Part count) = (0 < count) × (count ≤ most)
 FitsIn most (Last count) = count < most
 
+-- this holds where the line goes on after the piece
+abbrev pub IfPart : Result Piece Fault → Type 0 → Type 0
+IfPart (Ok End) holds = Unit {0}
+IfPart (Ok (Part count)) holds = holds
+IfPart (Ok (Last count)) holds = Unit {0}
+IfPart (Err e) holds = Unit {0}
+
 -- as much of a line as is kept: one byte more than a line may have
 abbrev pub kept_of : List ℕ → List ℕ
 kept_of line = take 4097 line

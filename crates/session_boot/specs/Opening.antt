@@ -34,9 +34,20 @@ IsReason (error.Misled place at wanted found) = Unit {0}
 IsReason error.DiskFault = ⊥
 IsReason error.Memory = ⊥
 
+-- no fault of the disk
+abbrev pub IsNoDiskFault : OpenError → Type 0
+IsNoDiskFault (error.NoRoot found) = Unit {0}
+IsNoDiskFault error.NoDescriptor = Unit {0}
+IsNoDiskFault (error.WrongLength size) = Unit {0}
+IsNoDiskFault (error.BadDescriptor word found) = Unit {0}
+IsNoDiskFault (error.NotClean mark) = Unit {0}
+IsNoDiskFault (error.Misled place at wanted found) = Unit {0}
+IsNoDiskFault error.DiskFault = ⊥
+IsNoDiskFault error.Memory = Unit {0}
+
 abbrev pub FaultOf : OpenError → Fault → Type 0
 FaultOf e Disk = e ≡ error.DiskFault
-FaultOf e Memory = Unit {0}
+FaultOf e Memory = IsNoDiskFault e
 FaultOf e Key = ⊥
 FaultOf e Display = ⊥
 
@@ -52,7 +63,7 @@ Refused e old new status.NeedsScavenge = IsReason e
 Refused e old new status.DiskFault = e ≡ error.DiskFault
 Refused e old new status.KeyFault = ⊥
 Refused e old new status.DisplayFault = IsReason e × Rose old.show_faults new.show_faults
-Refused e old new status.Memory = Unit {0}
+Refused e old new status.Memory = IsNoDiskFault e
 Refused e old new status.CannotScavenge = ⊥
 
 -- and what is shown on a modelled one: the text, or a prefix of it where the display failed

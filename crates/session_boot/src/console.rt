@@ -1,7 +1,7 @@
 // What is shown on the display.
 ghost use Rattle.disk_records.specs.Tapes.{Rose, ShowAlone};
 ghost use Rattle.exec_words.specs.Texts.{reply_text};
-ghost use Rattle.session_boot.specs.Faults.{HasShowCause};
+ghost use Rattle.session_boot.specs.Faults.{HasShowCause, NoFault};
 ghost use Rattle.session_boot.specs.Keys.{ShownAll};
 ghost use Rattle.std.specs.Prelude.{IsOk, IsTrue, OnErr, OnOk, false, ◌≡◌};
 
@@ -16,6 +16,7 @@ pub fn show_all<C: Console>(console: &mut C, bytes: &[u8]) -> Result<(), Fault>
     requires handed_on { C.handed_on console.old }
     ensures shown { IsTrue C.told → ShownAll bytes.now (C.tape console.old) (C.tape console.new) result }
     ensures cause { HasShowCause (C.tape console.old) (C.tape console.new) result }
+    ensures unfailed { OnOk result (NoFault (C.tape console.old) (C.tape console.new)) }
     ensures handed_on { C.handed_on console.new }
     ensures alone { ShowAlone (C.tape console.old) (C.tape console.new) }
 {
@@ -38,6 +39,7 @@ pub(crate) fn show_reply<C: Console>(
     requires handed_on { C.handed_on console.old }
     ensures shown { IsTrue C.told → ShownAll (reply_text reply.now) (C.tape console.old) (C.tape console.new) result }
     ensures cause { HasShowCause (C.tape console.old) (C.tape console.new) result }
+    ensures unfailed { OnOk result (NoFault (C.tape console.old) (C.tape console.new)) }
     ensures handed_on { C.handed_on console.new }
     ensures alone { ShowAlone (C.tape console.old) (C.tape console.new) }
 {
@@ -55,8 +57,10 @@ pub fn flush_display<C: Console>(console: &mut C) -> Result<(), Fault>
     ensures told { IsTrue C.told → IsOk result × (C.tape console.new ≡ C.tape console.old) }
     ensures same { OnOk result (C.tape console.new ≡ C.tape console.old) }
     ensures displayed { OnOk result (C.displayed console.new) }
+    ensures lines { C.waits console.new → C.waits console.old }
     ensures failed { OnErr result (Rose (C.tape console.old).show_faults (C.tape console.new).show_faults) }
     ensures cause { HasShowCause (C.tape console.old) (C.tape console.new) result }
+    ensures unfailed { OnOk result (NoFault (C.tape console.old) (C.tape console.new)) }
     ensures handed_on { C.handed_on console.old → C.handed_on console.new }
     ensures alone { ShowAlone (C.tape console.old) (C.tape console.new) }
 {
@@ -73,7 +77,9 @@ pub(crate) fn flush_unless<C: Console>(console: &mut C, may_wait: bool) -> Resul
     ensures told { IsTrue C.told → IsOk result × (C.tape console.new ≡ C.tape console.old) }
     ensures same { OnOk result (C.tape console.new ≡ C.tape console.old) }
     ensures displayed { may_wait ≡ false → OnOk result (C.displayed console.new) }
+    ensures lines { C.waits console.new → C.waits console.old }
     ensures cause { HasShowCause (C.tape console.old) (C.tape console.new) result }
+    ensures unfailed { OnOk result (NoFault (C.tape console.old) (C.tape console.new)) }
     ensures alone { ShowAlone (C.tape console.old) (C.tape console.new) }
 {
     if may_wait {

@@ -1,8 +1,8 @@
 // Keys as lines.
-ghost use Rattle.std.specs.Prelude.{◌≡◌, ◌<◌, ◌≤◌, length, IfOk, IfSome, IsTrue};
+ghost use Rattle.std.specs.Prelude.{◌≡◌, ◌<◌, ◌≤◌, length, IfOk, IfSome, IsTrue, OnOk};
 ghost use Rattle.disk_records.specs.Tapes.{KeysAlone};
-ghost use Rattle.session_boot.specs.Faults.{HasKeyCause};
-ghost use Rattle.session_boot.specs.Keys.{FitsIn, TookLine, TookPiece};
+ghost use Rattle.session_boot.specs.Faults.{HasKeyCause, NoFault};
+ghost use Rattle.session_boot.specs.Keys.{FitsIn, IfPart, TookLine, TookPiece};
 
 use crate::status::Fault;
 use disk_records::{Console, ConsoleError, LINE_END};
@@ -26,12 +26,17 @@ enum Piece {
     Last(usize),
 }
 
-/// Takes a piece of a line to the front of `buf`, and no key past the line's end. `End` exactly at the end of input.
+/// Takes a piece of a line to the front of `buf`, and no key past the line's end. `End` exactly at the end of input. Where keys may have to
+/// be waited for, the display has to have what was shown.
 fn next_piece<C: Console>(console: &mut C, buf: &mut [u8]) -> Result<Piece, Fault>
-    requires { 0 < length buf.old }
+    requires some { 0 < length buf.old }
+    requires answered { C.waits console.old → C.displayed console.old }
     ensures piece { IsTrue C.told → TookPiece (C.tape console.old).keys (C.tape console.new).keys buf.new result }
     ensures fits { IfOk result (FitsIn (length buf.old)) }
+    ensures displayed { C.displayed console.old → C.displayed console.new }
+    ensures goes_on { IfPart result (C.waits console.new → C.waits console.old) }
     ensures cause { HasKeyCause (C.tape console.old) (C.tape console.new) result }
+    ensures unfailed { OnOk result (NoFault (C.tape console.old) (C.tape console.new)) }
     ensures alone { KeysAlone (C.tape console.old) (C.tape console.new) }
 {
     match console.read_piece(buf) {
@@ -55,10 +60,12 @@ pub(crate) fn take_line<C: Console>(
     left: &mut u32,
 ) -> Result<Option<usize>, Fault>
     requires room { 4097 < length buffer.old }
+    requires answered { C.waits console.old → C.displayed console.old }
     ensures left { left.new ≤ left.old }
     ensures line { IsTrue C.told → TookLine (C.tape console.old).keys (C.tape console.new).keys left.old left.new buffer.new result }
     ensures fits { IfOk result (λ line. IfSome line (λ kept. kept ≤ length buffer.old)) }
     ensures cause { HasKeyCause (C.tape console.old) (C.tape console.new) result }
+    ensures unfailed { OnOk result (NoFault (C.tape console.old) (C.tape console.new)) }
     ensures alone { KeysAlone (C.tape console.old) (C.tape console.new) }
 {
     // A piece is put right after what is kept. Of an overlong line each writes over what the last one put past the first 4,097 bytes.

@@ -1,9 +1,11 @@
 // One turn: a line that is obeyed, or the end of the session, and its text.
 ghost use Rattle.disk_records.specs.Causes.{IsCause};
-ghost use Rattle.disk_records.specs.Tapes.{DiskAlone, Grown};
+ghost use Rattle.disk_records.specs.Events.{writes_in};
+ghost use Rattle.disk_records.specs.Tapes.{DiskAlone, Grown, added};
 ghost use Rattle.exec_session.specs.Ends.{cause_of_reply};
 ghost use Rattle.exec_session.specs.Meant.{kept};
-ghost use Rattle.session_boot.specs.Faults.{HasFaultCause, IsSameOrFailed};
+ghost use Rattle.executive.specs.pack_model.specs.states.Sound.{mark_clean};
+ghost use Rattle.session_boot.specs.Faults.{HasFaultCause, IsSameOrFailed, NoFault};
 ghost use Rattle.session_boot.specs.Turns.{EndsTurnBy, NextTurn, TakesTurnBy, next_after};
 ghost use Rattle.session_model.specs.Answering.{TakesTurns};
 ghost use Rattle.session_model.specs.Ending.{cue_of};
@@ -75,6 +77,7 @@ fn obey_and_flush<D: Disk>(alloc: Global, session: &mut Session, disk: &mut D, l
 fn end_and_flush<D: Disk>(alloc: Global, session: &mut Session, disk: &mut D) -> Reply
     requires formed { Formed (D.tape disk.old).form (kept session.old) }
     ensures turns { IsTrue D.told → TakesTurns (D.tape disk.old) (D.tape disk.new) (kept session.old) (kept session.new) ended result }
+    ensures quiet { IsTrue D.told → (kept session.old).mark ≡ mark_clean → (D.tape disk.new) ≡ (D.tape disk.old) }
     ensures limit { (kept session.new).tally.limit ≡ (kept session.old).tally.limit }
     ensures cause { IsCause (D.tape disk.old) (D.tape disk.new) (cause_of_reply result) }
     ensures handed_on { IfOk (next_after result) (λ next. D.handed_on disk.new) }
@@ -100,6 +103,7 @@ fn answer_line<M: Machine>(
     ensures limit { (kept session.new).tally.limit ≡ (kept session.old).tally.limit }
     ensures formed { Formed (M.tape machine.new).form (kept session.new) }
     ensures cause { HasFaultCause (M.tape machine.old) (M.tape machine.new) result }
+    ensures unfailed { OnOk result (NoFault (M.tape machine.old) (M.tape machine.new)) }
     ensures handed_on { OnOk result (M.handed_on machine.new) }
     ensures no_key { IsErrOf result Fault.Key → ⊥ }
     ensures grown { Grown (M.tape machine.old) (M.tape machine.new) }
@@ -127,6 +131,7 @@ fn answer_text<M: Machine>(
     ensures limit { (kept session.new).tally.limit ≡ (kept session.old).tally.limit }
     ensures formed { Formed (M.tape machine.new).form (kept session.new) }
     ensures cause { HasFaultCause (M.tape machine.old) (M.tape machine.new) result }
+    ensures unfailed { OnOk result (NoFault (M.tape machine.old) (M.tape machine.new)) }
     ensures handed_on { OnOk result (M.handed_on machine.new) }
     ensures no_key { IsErrOf result Fault.Key → ⊥ }
     ensures grown { Grown (M.tape machine.old) (M.tape machine.new) }
@@ -145,11 +150,13 @@ fn answer_typed<M: Machine>(
     left: &mut u32,
 ) -> Result<Option<Next>, Fault>
     requires room { 4097 < length buffer.old }
+    requires answered { M.waits machine.old → M.displayed machine.old }
     requires formed { Formed (M.tape machine.old).form (kept session.old) }
     ensures next { IsTrue M.told → NextTurn (M.tape machine.old) (M.tape machine.new) (kept session.old) (kept session.new) left.old left.new result }
     ensures limit { (kept session.new).tally.limit ≡ (kept session.old).tally.limit }
     ensures formed { Formed (M.tape machine.new).form (kept session.new) }
     ensures cause { HasFaultCause (M.tape machine.old) (M.tape machine.new) result }
+    ensures unfailed { OnOk result (NoFault (M.tape machine.old) (M.tape machine.new)) }
     ensures handed_on { IfOk result (λ next. IfSome next (λ over. M.handed_on machine.new)) }
     ensures grown { Grown (M.tape machine.old) (M.tape machine.new) }
 {
@@ -178,6 +185,7 @@ pub(crate) fn answer_next<M: Machine>(
     ensures limit { (kept session.new).tally.limit ≡ (kept session.old).tally.limit }
     ensures formed { Formed (M.tape machine.new).form (kept session.new) }
     ensures cause { HasFaultCause (M.tape machine.old) (M.tape machine.new) result }
+    ensures unfailed { OnOk result (NoFault (M.tape machine.old) (M.tape machine.new)) }
     ensures handed_on { IfOk result (λ next. IfSome next (λ over. M.handed_on machine.new)) }
     ensures grown { Grown (M.tape machine.old) (M.tape machine.new) }
 {
@@ -196,8 +204,10 @@ pub(crate) fn end_session<M: Machine>(
 ) -> Result<(), Fault>
     requires formed { Formed (M.tape machine.old).form (kept session.old) }
     ensures turn { IsTrue M.told → EndsTurnBy (M.tape machine.old) (M.tape machine.new) (kept session.old) (kept session.new) ended result }
+    ensures quiet { IsTrue M.told → (kept session.old).mark ≡ mark_clean → writes_in (added (M.tape machine.old) (M.tape machine.new)) ≡ 0 }
     ensures limit { (kept session.new).tally.limit ≡ (kept session.old).tally.limit }
     ensures cause { HasFaultCause (M.tape machine.old) (M.tape machine.new) result }
+    ensures unfailed { OnOk result (NoFault (M.tape machine.old) (M.tape machine.new)) }
     ensures handed_on { OnOk result (M.handed_on machine.new) }
     ensures no_key { IsErrOf result Fault.Key → ⊥ }
     ensures grown { Grown (M.tape machine.old) (M.tape machine.new) }

@@ -1,12 +1,14 @@
 // How a pack is opened, and the one text that says why one isn't entered.
+ghost use Rattle.alto_words.specs.Fid.{disk_descriptor};
 ghost use Rattle.disk_records.specs.Causes.{HasCause};
 ghost use Rattle.disk_records.specs.Tapes.{DiskAlone, ShowAlone, added, pack};
 ghost use Rattle.exec_session.specs.Meant.{kept};
 ghost use Rattle.exec_session.specs.Opens.{IsFresh, Opens, cause_of_open};
 ghost use Rattle.exec_words.specs.Texts.{found_text};
+ghost use Rattle.executive.specs.disk_descriptor.specs.Opening.{HasCleanPage};
 ghost use Rattle.executive.specs.pack_model.specs.reading.Sights.{sights};
 ghost use Rattle.executive.specs.pack_model.specs.states.Sentences.{EachOnce};
-ghost use Rattle.session_boot.specs.Faults.{IsSameOrFailed, UnlessStopped};
+ghost use Rattle.session_boot.specs.Faults.{IsSameOrFailed, NoFault, UnlessStopped};
 ghost use Rattle.session_boot.specs.Opening.{HasReason, IsReason, Refused, ShowsReason};
 ghost use Rattle.session_model.specs.Keeping.{Formed};
 ghost use Rattle.std.specs.Prelude.{IfErr, IfOk, IsTrue, OnOk, [], ◌++◌, ◌≡◌};
@@ -100,6 +102,7 @@ pub(crate) fn begin_and_flush<D: Disk>(
     limit: u64,
 ) -> Result<Session, OpenError>
     ensures opens { IsTrue D.told → EachOnce (sights (pack (D.tape disk.old))) → Opens (pack (D.tape disk.old)) moment limit result }
+    ensures clean_page { IsTrue D.told → IfOk result (λ s. HasCleanPage (pack (D.tape disk.old)) disk_descriptor) }
     ensures silent { IsTrue D.told → added (D.tape disk.old) (D.tape disk.new) ≡ [] }
     ensures formed { IfOk result (λ s. Formed (D.tape disk.new).form (kept s)) }
     ensures fresh { IfOk result (λ s. IsFresh moment limit (kept s)) }
@@ -121,6 +124,7 @@ pub(crate) fn refuse_pack<C: Console>(alloc: Global, console: &mut C, error: Ope
     requires handed_on { IsReason error → C.handed_on console.old }
     ensures refused { Refused error (C.tape console.old) (C.tape console.new) result }
     ensures shown { IsTrue C.told → ShowsReason error (C.tape console.old) (C.tape console.new) result }
+    ensures unfailed { UnlessStopped result (NoFault (C.tape console.old) (C.tape console.new)) }
     ensures handed_on { UnlessStopped result (C.handed_on console.new) }
     ensures alone { ShowAlone (C.tape console.old) (C.tape console.new) }
 {

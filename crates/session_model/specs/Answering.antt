@@ -27,7 +27,7 @@ use Rattle.session_model.specs.Finding.{the_file}
 use Rattle.session_model.specs.Streams.{bytes_in}
 use Rattle.session_model.specs.Worlds.{World}
 use Rattle.session_model.specs.Replies.{refusal as refusal_to, reply_to}
-use Rattle.session_model.specs.Turning.{State, Cue, typed, ended, TurnKind, plain, failed, scavenged, TurnMade, turn_of, cue_line, cue_moves, cue_files, asks_scavenge, is_quit, IsTakenUp}
+use Rattle.session_model.specs.Turning.{State, Cue, typed, aside, ended, TurnKind, plain, failed, scavenged, TurnMade, turn_of, cue_line, cue_moves, cue_files, asks_scavenge, is_quit, IsTakenUp}
 use Rattle.session_model.specs.Keeping.{Kept, Keeping}
 use Rattle.session_model.specs.Bounds.{AllHandy, RunsWithin}
 
@@ -38,6 +38,7 @@ reply_unless (Some x) r = reply.Refused x
 
 abbrev pub plain_reply : State → Cue → Reply
 plain_reply s (typed l) = reply_unless (refusal_to l s.model s.world) (cond (is_quit l) reply.Quit (reply.Done (reply_to l s.model s.world)))
+plain_reply s (aside text) = reply.Done text
 plain_reply s ended = reply.Done []
 
 abbrev pub reply_of : {p : Pack} {s : State} {cue : Cue} {wrote : List Event} {made : Turn Move} {world : World} {over : Bool} → TurnKind p s cue wrote made world over → Reply

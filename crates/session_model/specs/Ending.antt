@@ -19,7 +19,7 @@ use Rattle.exec_words.specs.pack_model.specs.reading.Sights.{sights}
 use Rattle.exec_words.specs.pack_model.specs.states.Sentences.{EachOnce}
 use Rattle.exec_words.specs.pack_model.specs.states.Sound.{Sound, Clean}
 use Rattle.exec_words.specs.Grammar.{line_in}
-use Rattle.session_model.specs.Turning.{State, Cue, typed, ended, cue_for, opening, HintFailing, hint_text}
+use Rattle.session_model.specs.Turning.{State, Cue, typed, aside, ended, cue_for, opening, HintFailing, hint_text}
 use Rattle.session_model.specs.Histories.{HistoryOf, aloud, broken_text, BrokenIsTakenUp, MadeAll, NoneFailedIn, ShowsRuled}
 use Rattle.session_model.specs.Answering.{count_end}
 use Rattle.session_model.specs.Opening.{Unready, no_root, no_descriptor, wrong_length, bad_descriptor, not_clean, unready, unready_text, system_files}
@@ -33,9 +33,11 @@ cue_of text = cue_for (line_in text)
 abbrev pub cues_of : List ℕ → List Cue
 cues_of keys = map cue_of (lines keys) ++ ended ∷ []
 
+-- those that took a line of the keys
 abbrev pub typed_cues : List Cue → ℕ
 typed_cues [] = 0
 typed_cues (typed l ∷ cues) = suc (typed_cues cues)
+typed_cues (aside text ∷ cues) = suc (typed_cues cues)
 typed_cues (ended ∷ cues) = typed_cues cues
 
 -- ---- how a call that is a session ends

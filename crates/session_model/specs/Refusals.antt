@@ -7,7 +7,6 @@ use Rattle.exec_words.specs.alto_words.specs.declared.fid.Fid.{Fid}
 use Rattle.exec_words.specs.alto_words.specs.Fid.{is_fid, is_directory, sys_dir, disk_descriptor}
 use Rattle.exec_words.specs.alto_words.specs.declared.wanted.Wanted.{Wanted}
 use Rattle.exec_words.specs.alto_words.specs.declared.wanted.Wanted.TheVariants.{Exact, Newest}
-use Rattle.exec_words.specs.pack_model.specs.reading.Bytes.{words_of}
 use Rattle.exec_words.specs.pack_model.specs.reading.Files.{first}
 use Rattle.exec_words.specs.pack_model.specs.reading.Model.{Model, room}
 use Rattle.exec_words.specs.pack_model.specs.operations.Committing.{length_of, pages_for_operations}
@@ -23,7 +22,7 @@ use Rattle.exec_words.specs.Typed.{is_typed}
 use Rattle.world_model.specs.Zones.{size_for, taken, largest_gap, given_back}
 use Rattle.world_model.specs.ZoneWords.{zone_start}
 use Rattle.world_model.specs.Levels.{used_by_levels}
-use Rattle.world_model.specs.StateFiles.{mark_whole, state_length, state_mark, spoilt_word}
+use Rattle.world_model.specs.StateFiles.{Fault, not_a_world, not_whole, spoilt, fault_of, state_length}
 use Rattle.session_model.specs.Finding.{dir_of, has_entry, file_at, is_there, is_path_taken, is_dir_taken}
 use Rattle.session_model.specs.Streams.{bytes_in, stream_length, stream_at}
 use Rattle.session_model.specs.Worlds.{World, memory_word}
@@ -202,12 +201,14 @@ by_memory line.CounterJunta w = option_map refusal.InUse (used_by_levels w.zone)
 by_memory l w = None
 
 -- ---- 12: worlds
--- these bytes are the file of no whole world: their length, their mark, their first word that no world has
+-- what the bytes of a file have against them that is to be a world
+abbrev pub refusal_of_fault : Fault → Refusal
+refusal_of_fault (not_a_world size) = refusal.NotAWorld size
+refusal_of_fault (not_whole mark) = refusal.NotWhole mark
+refusal_of_fault (spoilt at) = refusal.Spoilt at
+
 abbrev pub no_world : List ℕ → Option Refusal
-no_world bytes =
-    option_or (when (not (length bytes == state_length)) (refusal.NotAWorld (length bytes)))
-    (option_or (when (not (state_mark (words_of bytes) == mark_whole)) (refusal.NotWhole (state_mark (words_of bytes))))
-    (option_map refusal.Spoilt (spoilt_word (words_of bytes))))
+no_world bytes = option_map refusal_of_fault (fault_of bytes)
 
 -- a world is written over a world, or into a file without a byte
 abbrev pub takes_world : ℕ → Option Refusal

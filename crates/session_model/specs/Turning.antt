@@ -1,4 +1,4 @@
--- A turn of a session: over a typed line, or over the end of the keys.
+-- A turn of a session: over a typed line, over a text that was answered without the session, or over the end of the keys.
 -- The kinds of turns are this project's choice.
 use Rattle.std.specs.Prelude.{◌≡◌, ℕ, Bool, true, false, cond, List, [], ◌∷◌, ◌++◌, Option, None, Contains}
 use Rattle.exec_words.specs.alto_words.specs.declared.fid.Fid.{Fid}
@@ -46,29 +46,36 @@ pub record StandsOn (p : Pack) (s : State) : Type 0 where
   pub sound : s.world.need ≡ false → Sound p
   pub reads : s.world.need ≡ false → read_as p ≡ s.model
 
--- ---- what a turn is over: a line, or the end of the keys, which is as a line `quit` without a reply
+-- ---- what a turn is over: a line; what was answered without the session, by this text; or the end of the keys, which is as a line `quit`
+-- without a reply
 pub data Cue : Type 0 where
   typed : Line → Cue
+  aside : List ℕ → Cue
   ended : Cue
 
 -- what a line is to a session of this program: a bad line if its verb isn't built yet
 abbrev pub cue_for : Line → Cue
 cue_for l = typed (as_built l)
 
+-- the line that it is to the session: an answer without it is as a bad line with another text
 abbrev pub cue_line : Cue → Line
 cue_line (typed l) = l
+cue_line (aside text) = line.Bad
 cue_line ended = line.Quit
 
 abbrev pub is_ended : Cue → Bool
 is_ended (typed l) = false
+is_ended (aside text) = false
 is_ended ended = true
 
 abbrev pub cue_ops : State → Cue → List Operation
 cue_ops s (typed l) = ops l s.model s.world
+cue_ops s (aside text) = []
 cue_ops s ended = ending_ops s.model s.world
 
 abbrev pub cue_text : State → Cue → List ℕ
 cue_text s (typed l) = reply_to l s.model s.world
+cue_text s (aside text) = text
 cue_text s ended = []
 
 abbrev pub cue_world : State → Cue → World
@@ -92,10 +99,12 @@ is_scavenge l = false
 
 abbrev pub closes : State → Cue → Bool
 closes s (typed l) = unless_refused (refusal_to l s.model s.world) (is_quit l) false
+closes s (aside text) = false
 closes s ended = true
 
 abbrev pub asks_scavenge : State → Cue → Bool
 asks_scavenge s (typed l) = unless_refused (refusal_to l s.model s.world) (is_scavenge l) false
+asks_scavenge s (aside text) = false
 asks_scavenge s ended = false
 
 -- ---- the record writes of a turn, as the moves that they make, one each: with the mark that the pack has as it begins

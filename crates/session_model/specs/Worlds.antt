@@ -1,11 +1,10 @@
 -- What a session keeps beside the files: the world.
 -- OutLoad and InLoad are those of the SOSP 1979 paper; what a world is, is this project's choice.
-use Rattle.std.specs.Prelude.{ℕ, ◌-◌, Bool, true, false, cond, nat_le, nat_lt, List, [], ◌∷◌, take, replicate, set, Option, Some}
+use Rattle.std.specs.Prelude.{ℕ, ◌-◌, Bool, true, false, cond, nat_le, List, [], ◌∷◌, take, replicate, set, Option}
 use Rattle.std.specs.Option.{unwrap_or}
 use Rattle.exec_words.specs.alto_words.specs.Fid.{sys_dir}
-use Rattle.exec_words.specs.disk_records.specs.Words.{word}
-use Rattle.world_model.specs.Zones.{Block, gap, zone_word, zone_set}
-use Rattle.world_model.specs.ZoneWords.{zone_start, zone_in, memory_of}
+use Rattle.world_model.specs.Zones.{Block, gap, zone_set}
+use Rattle.world_model.specs.ZoneWords.{zone_start, zone_in, memory_of, storable_word}
 use Rattle.world_model.specs.Levels.{all_levels, level_base, level_kept, zone_kept, zone_below_all}
 use Rattle.world_model.specs.StateFiles.{state_bytes, state_level, state_memory, with_message}
 use Rattle.session_model.specs.Streams.{Stream, new_stream, stream_at, with_stream, without_stream}
@@ -35,9 +34,9 @@ fresh_world moment = record {
 abbrev pub memory_words : World → List ℕ
 memory_words w = memory_of (level_base w.level) w.user w.zone
 
--- the word at this address, where it is the user's or one of a used block
+-- the word at this address, where it may be stored to
 abbrev pub memory_word : World → ℕ → Option ℕ
-memory_word w at = cond (nat_lt at zone_start) (Some (word w.user at)) (zone_word zone_start at w.zone)
+memory_word w at = storable_word w.user w.zone at
 
 abbrev pub world_with_zone : World → List Block → World
 world_with_zone w zone = record w { zone = zone }

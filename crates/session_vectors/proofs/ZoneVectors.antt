@@ -1,8 +1,9 @@
--- Small cases of zones and levels.
+-- Small cases of zones, levels and the files of worlds.
 use Rattle.std.proofs.Common.{◌≡◌, false, List, [], ◌∷◌, Some, None, refl}
 use Rattle.std.specs.Prelude.{replicate}
 use Rattle.session_model.specs.world_model.specs.Zones.{Block, gap, live, size_for, taken, largest_gap, freed, given_back, zone_word, zone_set}
-use Rattle.session_model.specs.world_model.specs.ZoneWords.{zone_words, blocks_in, first_wrong, zone_start}
+use Rattle.session_model.specs.world_model.specs.StateFiles.{fault_of, length_fault, mark_fault, not_a_world, not_whole}
+use Rattle.session_model.specs.world_model.specs.ZoneWords.{zone_words, blocks_in, first_wrong, storable_word, zone_start}
 use Rattle.session_model.specs.world_model.specs.Levels.{all_levels, level_base, level_kept, zone_kept, used_by_levels, zone_below_all}
 
 -- ---- the bases of the levels
@@ -58,6 +59,23 @@ words_used :
     × (zone_set 1024 1029 9 three_blocks ≡ gap 4 ∷ live (9 ∷ []) ∷ gap 6 ∷ [])
     × (zone_set 1024 1028 9 three_blocks ≡ three_blocks)
 words_used = (refl, refl, refl, refl, refl, refl, refl)
+
+-- and words that may be stored to: the user's, with which these words begin, and usable ones
+words_stored :
+    (storable_word (5 ∷ 6 ∷ []) three_blocks 1 ≡ Some 6)
+    × (storable_word (5 ∷ 6 ∷ []) three_blocks 1029 ≡ Some 7)
+    × (storable_word (5 ∷ 6 ∷ []) three_blocks 1024 ≡ None)
+    × (storable_word (5 ∷ 6 ∷ []) three_blocks 1028 ≡ None)
+    × (storable_word (5 ∷ 6 ∷ []) three_blocks 1036 ≡ None)
+words_stored = (refl, refl, refl, refl, refl)
+
+-- ---- what bytes have against them that are no world
+faults :
+    (fault_of (0 ∷ 0 ∷ []) ≡ Some (not_a_world 2))
+    × (length_fault 131076 ≡ None)
+    × (mark_fault 42330 ≡ None)
+    × (mark_fault 0 ≡ Some (not_whole 0))
+faults = (refl, refl, refl, refl)
 
 -- ---- levels that go and come back
 levels :

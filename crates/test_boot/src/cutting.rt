@@ -87,6 +87,32 @@ fn each_cut_is_entered_if_closed(rt: HostRuntime) -> Result<(), Fail> {
     Ok(())
 }
 
+/// Scavenges a machine over a cut, and enters its pack. The place of the view then.
+fn view_mended(alloc: Global, shape: Shape, mut cut: MemMachine) -> Result<usize, Fail> {
+    let mended = alto(alloc, &words_of(alloc, "scavenge")?, MOMENT, &mut cut);
+    expect(mended == Status::Done, "a cut isn't scavenged")?;
+    let entered = alto(alloc, &words_of(alloc, "boot")?, MOMENT, &mut cut);
+    expect(entered == Status::Done, "a mended pack isn't entered")?;
+    view_of(alloc, shape, cut.into_sectors())
+}
+
+#[test]
+fn every_tenth_cut_is_mended_and_entered(rt: HostRuntime) -> Result<(), Fail> {
+    let alloc = rt.alloc();
+    let shape = shape_of(2)?;
+    let pack = formatted(alloc, shape)?;
+    let (machine, _) = session(alloc, shape, &pack, u64::MAX, 0)?;
+    for count in 0..=machine.event_count() {
+        if count % 10 != 0 {
+            continue;
+        }
+        let view = view_of_cut(alloc, shape, machine.cut(alloc, count)?)?;
+        let mended = view_mended(alloc, shape, machine.cut(alloc, count)?)?;
+        assert!(rt; mended == view, "{count}");
+    }
+    Ok(())
+}
+
 /// How a session ends in which this call fails after so many of its record writes. Replies are shown whole. After a fault of the disk or the
 /// display the keys of the next line are taken and no other, and every line that ended has its reply after one of the keyboard.
 fn status_at(

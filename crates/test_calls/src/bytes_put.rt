@@ -22,7 +22,8 @@ const FILE: FileRef = FileRef {
 const PAST: [u32; 4] = [4, 5, 512, 33_553_920];
 
 /// One record write is made, and counts up to a limit of 1: `BCDE` from byte 1 on, and then `BF` with a word after it. Bytes that would end
-/// after the file are refused with its length, and a page that the sector doesn't carry with the label there; and nothing is written.
+/// after the file are refused with its length, as are words after bytes that don't end it, and a page that the sector doesn't carry with
+/// the label there; and nothing is written.
 #[test]
 fn bytes_in_a_page(rt: HostRuntime) -> Result<(), Fail> {
     let mut machine = sure_machine(rt.alloc(), sectors_of(rt.alloc(), &[LEADER, DATA])?, b"")?;
@@ -81,6 +82,17 @@ fn bytes_in_a_page(rt: HostRuntime) -> Result<(), Fail> {
         );
         assert_eq!(rt; answer, Err(FileError::Beyond { length: 5 }));
     }
+    let answer = put(
+        &mut machine,
+        &mut hints,
+        &mut tally,
+        &FILE,
+        1,
+        b"xy",
+        &[0x1234],
+        &mut buf,
+    );
+    assert_eq!(rt; answer, Err(FileError::Beyond { length: 5 }));
     let wanted = Page {
         fid: FILE.fid,
         number: 2,

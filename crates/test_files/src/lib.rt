@@ -8,6 +8,8 @@
 #[cfg(test)]
 mod outside;
 #[cfg(test)]
+mod power;
+#[cfg(test)]
 mod real_files;
 #[cfg(test)]
 mod samples;

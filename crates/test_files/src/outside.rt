@@ -2,11 +2,13 @@
 // made is noted; each part may fail, and calls may be short or interrupted.
 ghost use Rattle.std.specs.Prelude.{◌≤◌, IfOk};
 
+use disk_image::Lockable;
 use std::alloc::{AllocError, Allocator, Global};
 use std::cell::{Cell, RefCell};
 use std::fmt::Display;
-use std::fs::{File, Metadata, OpenFile, OpenOptions};
+use std::fs::{File, Metadata, OpenFile, OpenOptions, TryLockError};
 use std::io::{BufRead, Error, ErrorKind, Input, Lines, Print, Read, Seek, SeekFrom, Write};
+use std::mem::replace;
 use std::os::unix::fs::FileExt;
 use std::rt::Files;
 use std::{fs, io};
@@ -30,6 +32,12 @@ pub enum Broken {
     WriteCall(u64),
     /// A file takes so many bytes, and then none: a write call of more is short, and the next one fails.
     Full(usize),
+    /// Another process has each file.
+    InUse,
+    /// A lock of a file can't be taken, as where the file system has none.
+    Lockless,
+    /// The device doesn't take what was written.
+    Syncing,
     /// One opening of a file fails: that with this number, counted from 0.
     Opening(u64),
     /// Each read and write call of a file, and each read of keys, does 5 bytes of what it is asked at most.
@@ -92,10 +100,20 @@ pub enum FileCall {
     Write(usize),
     ReadAt(u64, usize),
     WriteAt(u64, usize),
+    Sync,
 }
 
 /// How many calls of files are kept.
 const MOST_CALLS: usize = 12;
+
+/// What the device is asked to have of a file, in the order of the calls.
+#[derive(Drop)]
+pub enum Taken {
+    /// The bytes of one write call, and their place in the file.
+    Bytes { at: u64, bytes: Vec<u8> },
+    /// It was waited for until it had all that was written before.
+    Settled,
+}
 
 /// What an outside was asked to do.
 #[derive(Drop)]
@@ -108,6 +126,7 @@ pub struct Log {
     file_writes: Cell<u64>,
     lengths: Cell<u64>,
     file_calls: RefCell<Vec<FileCall>>,
+    taken: RefCell<Vec<Taken>>,
 }
 
 impl Log {
@@ -122,6 +141,7 @@ impl Log {
             file_writes: Cell::new(0),
             lengths: Cell::new(0),
             file_calls: RefCell::new(Vec::new(alloc)),
+            taken: RefCell::new(Vec::new(alloc)),
         }
     }
 
@@ -168,6 +188,21 @@ impl Log {
                 }
                 Ok(())
             }
+            Err(_) => Err(Error::from(ErrorKind::ResourceBusy)),
+        }
+    }
+
+    /// What files took at places that were named, and the waits for the device, since the log was made or this was last asked.
+    pub fn take_taken(&self, alloc: Global) -> Result<Vec<Taken>, AllocError> {
+        match self.taken.try_borrow_mut() {
+            Ok(mut taken) => Ok(replace(&mut *taken, Vec::new(alloc))),
+            Err(_) => Err(AllocError),
+        }
+    }
+
+    fn note_taken(&self, taken: Taken) -> io::Result<()> {
+        match self.taken.try_borrow_mut() {
+            Ok(mut all) => Ok(all.push(taken)?),
             Err(_) => Err(Error::from(ErrorKind::ResourceBusy)),
         }
     }
@@ -284,6 +319,7 @@ pub struct Logged<'a> {
     // how many bytes it still takes
     room: Cell<usize>,
     log: &'a Log,
+    alloc: Global,
 }
 
 impl Logged<'_> {
@@ -362,6 +398,10 @@ impl FileExt for Logged<'_> {
 
     fn write_at(&self, buf: &[u8], offset: u64) -> io::Result<usize> {
         let length = self.length_to_write(FileCall::WriteAt(offset, buf.len()), buf.len())?;
+        self.log.note_taken(Taken::Bytes {
+            at: offset,
+            bytes: buf[..length].to_vec(self.alloc)?,
+        })?;
         self.file.write_at(&buf[..length], offset)
     }
 }
@@ -390,7 +430,39 @@ impl OpenFile for Logged<'_> {
     }
 
     fn sync_data(&self) -> io::Result<()> {
+        self.log.note_file_call(FileCall::Sync)?;
+        if self.broken == Broken::Syncing {
+            return Err(Error::from(ErrorKind::Other));
+        }
+        self.log.note_taken(Taken::Settled)?;
         self.file.sync_data()
+    }
+}
+
+impl Logged<'_> {
+    /// Whether the outside lets the file be locked.
+    fn may_lock(&self) -> Result<(), TryLockError> {
+        match self.broken {
+            Broken::InUse => Err(TryLockError::WouldBlock),
+            Broken::Lockless => Err(TryLockError::Error(Error::from(ErrorKind::Unsupported))),
+            _ => Ok(()),
+        }
+    }
+}
+
+impl Lockable for Logged<'_> {
+    ghost alone = { λ file. Unit {0} };
+
+    ghost shared = { λ file. Unit {0} };
+
+    fn try_lock(&self) -> Result<(), TryLockError> {
+        self.may_lock()?;
+        self.file.try_lock()
+    }
+
+    fn try_lock_shared(&self) -> Result<(), TryLockError> {
+        self.may_lock()?;
+        self.file.try_lock_shared()
     }
 }
 
@@ -450,6 +522,7 @@ impl<'a> Files for Outside<'a> {
                 _ => usize::MAX,
             }),
             log: self.log,
+            alloc: self.host.alloc(),
         })
     }
 

@@ -217,14 +217,15 @@ fn writes_of_the_other_drive_go_ahead(rt: HostRuntime) -> Result<(), Fail> {
 fn both_files_are_opened_and_made_or_none(rt: HostRuntime) -> Result<(), Fail> {
     let alloc = rt.alloc();
     let pair = old_pair(&rt)?;
-    // of each file three openings hold the places of the standard streams, and the fourth is its own; two write calls fill a file
-    for failing in 0u64..=13 {
-        let broken = if failing <= 8 {
+    // of each file three openings hold the places of the standard streams, and the fourth is its own; of a new one the fifth is that of its
+    // folder, which may fail; two write calls fill a file
+    for failing in 0u64..=15 {
+        let broken = if failing <= 10 {
             Broken::Opening(failing)
         } else {
-            Broken::WriteCall(failing - 9)
+            Broken::WriteCall(failing - 11)
         };
-        let is_made = failing == 8 || failing == 13;
+        let is_made = failing == 4 || failing == 9 || failing == 10 || failing == 15;
         let log = Log::new(alloc);
         let outside = Outside::new(&rt, b"", broken, &log);
         let made = FileMachine::create_two(&outside, alloc, "first", "second", 2).err();
@@ -249,4 +250,92 @@ fn refusal_unless(is_possible: bool) -> Option<ReachError> {
     } else {
         Some(ReachError::NoFile)
     }
+}
+
+#[test]
+fn a_pack_file_in_use_is_refused(rt: HostRuntime) -> Result<(), Fail> {
+    let alloc = rt.alloc();
+    let pair = old_pair(&rt)?;
+    let rows = [
+        (Broken::Nothing, None),
+        (Broken::InUse, Some(ReachError::InUse)),
+        (Broken::Lockless, Some(ReachError::NoFile)),
+    ];
+    for (broken, refused) in rows {
+        place(&rt, &pair)?;
+        let log = Log::new(alloc);
+        let outside = Outside::new(&rt, b"", broken, &log);
+        assert!(rt;
+            FileMachine::reach(&outside, alloc, "first").err() == refused,
+            "{broken:?}"
+        );
+        assert!(rt;
+            FileMachine::reach_to_read(&outside, alloc, "first").err() == refused,
+            "{broken:?}"
+        );
+        let two = FileMachine::reach_two_to_read(&outside, alloc, "first", "second").err();
+        assert!(rt; two == refused, "{broken:?}");
+        assert!(rt;
+            FileMachine::create(&outside, alloc, "third", 2).err() == refused,
+            "{broken:?}"
+        );
+        assert!(rt;
+            fs::metadata(&rt, "third").is_ok() == refused.is_none(),
+            "{broken:?}"
+        );
+        let _ = fs::remove_file(&rt, "third");
+        // the files stayed as they were
+        assert!(rt; stood(&rt, &pair)?, "{broken:?}");
+    }
+    Ok(())
+}
+
+#[test]
+fn a_pack_file_is_read_by_some_or_written_by_one(rt: HostRuntime) -> Result<(), Fail> {
+    let alloc = rt.alloc();
+    let pair = old_pair(&rt)?;
+    place(&rt, &pair)?;
+    let log = Log::new(alloc);
+    let outside = Outside::new(&rt, b"", Broken::Nothing, &log);
+    let reading = FileMachine::reach_to_read(&outside, alloc, "first")?;
+    assert!(rt; FileMachine::reach_to_read(&outside, alloc, "first").is_ok());
+    assert!(rt; FileMachine::reach(&outside, alloc, "first").err() == Some(ReachError::InUse));
+    drop(reading);
+    assert!(rt; FileMachine::reach(&outside, alloc, "first").is_ok());
+    assert!(rt;
+        FileMachine::reach_two(&outside, alloc, "first", "first").err() == Some(ReachError::NoFile)
+    );
+    assert!(rt; stood(&rt, &pair)?);
+    Ok(())
+}
+
+#[test]
+fn the_device_is_waited_for_once_for_what_was_written(rt: HostRuntime) -> Result<(), Fail> {
+    let alloc = rt.alloc();
+    let pair = old_pair(&rt)?;
+    for (broken, is_done) in [(Broken::Nothing, true), (Broken::Syncing, false)] {
+        place(&rt, &pair)?;
+        let log = Log::new(alloc);
+        let outside = Outside::new(&rt, b"", broken, &log);
+        let mut machine = FileMachine::reach_two(&outside, alloc, "first", "second")?;
+        // nothing was written, so nobody is asked
+        assert!(rt; machine.settle().is_ok());
+        assert!(rt; log.take_file_calls(alloc)?.is_empty());
+        assert!(rt; 49 < machine.shape().pages());
+        machine.run(49, Plan::WRITE_ALL, &mut ZEROS)?;
+        assert!(rt; machine.settle().is_ok() == is_done, "{broken:?}");
+        let calls = [
+            FileCall::Seek(SeekFrom::End(0)),
+            FileCall::WriteAt(532, 532),
+            FileCall::Sync,
+        ];
+        assert!(rt;
+            log.take_file_calls(alloc)?.as_slice() == calls.as_slice(),
+            "{broken:?}"
+        );
+        drop(machine);
+        fs::remove_file(&rt, "first")?;
+        fs::remove_file(&rt, "second")?;
+    }
+    Ok(())
 }

@@ -23,6 +23,7 @@ pub fn expect_no_key_taken<A: Abort, M: Console>(
     keys: &[u8],
 ) -> Result<(), Fail> {
     let mut left = [0; 33];
+    machine.flush_display()?;
     let count = machine.read(&mut left)?;
     assert_eq!(rt; left.get(..count), Some(keys));
     Ok(())

@@ -1,7 +1,7 @@
 -- The file of a world: a mark, a level and the words of a memory.
 -- OutLoad and InLoad are those of the SOSP 1979 paper; what a world is, and the form of its file, are this project's choice.
-use Rattle.std.specs.Prelude.{◌≡◌, ℕ, ◌+◌, ◌-◌, ◌&&◌, cond, nat_le, List, ◌∷◌, ◌++◌, length, drop, replicate, Option, Some, None}
-use Rattle.std.specs.Option.{option_map}
+use Rattle.std.specs.Prelude.{◌≡◌, ℕ, ◌+◌, ◌-◌, ◌==◌, ◌&&◌, cond, nat_le, List, ◌∷◌, ◌++◌, length, drop, replicate, Option, Some, None}
+use Rattle.std.specs.Option.{option_map, option_or}
 use Rattle.disk_records.specs.Bytes.{bytes_of, words_of, put_at}
 use Rattle.disk_records.specs.Words.{word}
 use Rattle.world_model.specs.ZoneWords.{first_broken}
@@ -38,11 +38,29 @@ spoilt_memory words = option_map (λ at. at + 2) (first_broken (level_base (stat
 abbrev pub spoilt_word : List ℕ → Option ℕ
 spoilt_word words = cond (nat_le 1 (state_level words) && nat_le (state_level words) all_levels) (spoilt_memory words) (Some 1)
 
+-- ---- what bytes have against them that are the file of no whole world
+-- so many of them, and not a world's; this mark, which no whole file has; this word, the first that no world has
+pub data Fault : Type 0 where
+  not_a_world : ℕ → Fault
+  not_whole : ℕ → Fault
+  spoilt : ℕ → Fault
+
+abbrev pub length_fault : ℕ → Option Fault
+length_fault size = cond (size == state_length) None (Some (not_a_world size))
+
+abbrev pub mark_fault : ℕ → Option Fault
+mark_fault mark = cond (mark == mark_whole) None (Some (not_whole mark))
+
+-- the first of the three
+abbrev pub fault_of : List ℕ → Option Fault
+fault_of bytes =
+    option_or (length_fault (length bytes))
+    (option_or (mark_fault (state_mark (words_of bytes)))
+    (option_map spoilt (spoilt_word (words_of bytes))))
+
 -- These bytes are the file of a whole world.
-pub record IsState (bytes : List ℕ) : Type 0 where
-  pub size : length bytes ≡ state_length
-  pub mark : state_mark (words_of bytes) ≡ mark_whole
-  pub unspoilt : spoilt_word (words_of bytes) ≡ None
+abbrev pub IsState : List ℕ → Type 0
+IsState bytes = fault_of bytes ≡ None
 
 -- ---- the message that a world finds when it comes back: 40 bytes, those stated and then zeros, in its first 20 words
 abbrev pub message_length : ℕ

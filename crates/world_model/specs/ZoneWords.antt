@@ -1,9 +1,10 @@
 -- A zone in the memory: the words of blocks, the blocks of words, and the first word that no zone has.
 -- The tags of blocks are this project's choice.
 use Rattle.std.specs.Prelude.{◌≡◌, ℕ, zero, suc, ◌+◌, ◌-◌, ◌*◌, ◌/◌, ◌==◌, ◌&&◌, ◌||◌, Bool, false, cond, nat_lt, List, [], ◌∷◌, ◌++◌, length, take, drop, replicate, Option, Some, None}
-use Rattle.std.specs.Option.{option_or}
+use Rattle.std.specs.Option.{is_some, option_or}
 use Rattle.std.specs.List.{flat_map}
-use Rattle.world_model.specs.Zones.{Block, gap, live}
+use Rattle.disk_records.specs.Words.{word}
+use Rattle.world_model.specs.Zones.{Block, gap, live, zone_word}
 
 -- ---- blocks as words: the first is the tag, the size in words, plus 1 where the block is used
 abbrev pub block_words : Block → List ℕ
@@ -83,3 +84,12 @@ pub record IsMemory (top : ℕ) (memory : List ℕ) : Type 0 where
 -- these blocks are the zone's now, and no word outside it is another
 abbrev pub with_zone : ℕ → List ℕ → List Block → List ℕ
 with_zone top memory zone = take zone_start memory ++ zone_words zone ++ drop top memory
+
+-- ---- words that may be stored to
+-- the word at this address, where it is one of the user's, with which these words begin, or a usable one of a used block
+abbrev pub storable_word : List ℕ → List Block → ℕ → Option ℕ
+storable_word words zone at = cond (nat_lt at zone_start) (Some (word words at)) (zone_word zone_start at zone)
+
+-- there is one in this memory
+abbrev pub is_inside : ℕ → List ℕ → ℕ → Bool
+is_inside top memory at = is_some (storable_word memory (zone_in top memory) at)

@@ -5,7 +5,8 @@
 //! Below it stand disk_records, for words and bytes. It has no function. The calls on zones, on levels and on worlds will cite these
 //! definitions, and session_model cites them for what a session keeps beside its files.
 //! They read upwards: a *block* is free or used; a zone is a row of blocks (`Zones`); which words a row of blocks is, and which row
-//! some words are, is one relation (`ZoneWords`); the levels say where the zone ends in the memory, and what they take and give back
-//! (`Levels`); a world is a level and a memory, and a state file has its words (`StateFiles`). docs/model.md tells them in plain words.
+//! some words are, is one relation, as is which words may be stored to (`ZoneWords`); the levels say where the zone ends in the memory, and
+//! what they take and give back (`Levels`); a world is a level and a memory, and a state file has its words, or bytes have something against
+//! them that are none (`StateFiles`). docs/model.md tells them in plain words.
 //! Not said: how long anything takes, and whether memory is left for a copy of the words.
 #![tactic(auto)]

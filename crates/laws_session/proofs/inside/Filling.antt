@@ -1,5 +1,5 @@
 -- What a line is refused for: one reason alone is for room, which asks for the pages of its operations, and none is a hint's.
-use Rattle.std.proofs.Common.{◌≡◌, ◌==◌, length, ℕ, Bool, true, false, not, nat_lt, List, [], ◌∷◌, ◌++◌, Option, Some, None, map, subst}
+use Rattle.std.proofs.Common.{◌≡◌, ℕ, Bool, true, false, nat_lt, List, [], ◌∷◌, ◌++◌, Option, Some, None, map, subst}
 use Rattle.std.specs.Option.{option_map, option_or}
 use Rattle.laws_line.specs.alto_words.specs.declared.fid.Fid.{Fid}
 use Rattle.laws_line.specs.alto_words.specs.declared.wanted.Wanted.{Wanted}
@@ -8,7 +8,6 @@ use Rattle.laws_line.specs.disk_records.specs.declared.records.Page.{Page}
 use Rattle.laws_line.specs.disk_records.specs.declared.records.Place.{Place}
 use Rattle.laws_line.specs.pack_model.specs.operations.Committing.{length_of, pages_for_operations}
 use Rattle.laws_line.specs.pack_model.specs.operations.Step.{Operation}
-use Rattle.laws_line.specs.pack_model.specs.reading.Bytes.{words_of}
 use Rattle.laws_line.specs.pack_model.specs.reading.Files.{first}
 use Rattle.laws_line.specs.pack_model.specs.reading.Model.{Model, room}
 use Rattle.session_model.specs.exec_words.specs.declared.line.Line.{Line}
@@ -19,13 +18,13 @@ use Rattle.session_model.specs.exec_words.specs.declared.line.Target.TheVariants
 use Rattle.session_model.specs.exec_words.specs.declared.reply.Refusal.{Refusal}
 use Rattle.session_model.specs.exec_words.specs.declared.reply.Refusal.TheVariants as refusal_is
 use Rattle.session_model.specs.world_model.specs.Levels.{used_by_levels}
-use Rattle.session_model.specs.world_model.specs.StateFiles.{mark_whole, spoilt_word, state_length, state_mark}
+use Rattle.session_model.specs.world_model.specs.StateFiles.{Fault, fault_of, not_a_world, not_whole, spoilt}
 use Rattle.session_model.specs.world_model.specs.Zones.{given_back, largest_gap, size_for, taken}
 use Rattle.session_model.specs.world_model.specs.ZoneWords.{zone_start}
 use Rattle.session_model.specs.Effects.{effect}
 use Rattle.session_model.specs.Finding.{file_at}
 use Rattle.session_model.specs.Operands.{Operand, Use, level_of, listed, new_directory, new_file, no_directory, operands, removed, some_file, world}
-use Rattle.session_model.specs.Refusals.{beyond, by_line, by_memory, by_operands, by_room, by_world, dir_at, left_in, meets_stream, missing, missing_file, no_dir, no_such_stream, no_world, not_empty, of_system, of_taken_name, of_wrong_kind, reasons, spent, stream_named, taken_dir, taken_path, taken_target, too_many, when, when_found, when_missing, wrong_kind, wrong_system}
+use Rattle.session_model.specs.Refusals.{beyond, by_line, by_memory, by_operands, by_room, by_world, dir_at, left_in, meets_stream, missing, missing_file, no_dir, no_such_stream, no_world, not_empty, of_system, of_taken_name, of_wrong_kind, reasons, refusal_of_fault, spent, stream_named, taken_dir, taken_path, taken_target, too_many, when, when_found, when_missing, wrong_kind, wrong_system}
 use Rattle.session_model.specs.Streams.{bytes_in, stream_at, stream_length}
 use Rattle.session_model.specs.Worlds.{World, memory_word}
 use Rattle.laws_session.specs.CallLaws.{RefusalsNameNoHint}
@@ -148,12 +147,13 @@ memory_is line.CounterJunta w = by (used_by_levels w.zone)
 memory_is l w = tt
 
 whole_is : (bytes : List ℕ) → IfOther (no_world bytes)
-whole_is bytes = either (when (not (length bytes == state_length)) (refusal_is.NotAWorld (length bytes))) _ (test (not (length bytes == state_length)) (refusal_is.NotAWorld (length bytes)) tt)
-    (either (when (not (state_mark (words_of bytes) == mark_whole)) (refusal_is.NotWhole (state_mark (words_of bytes)))) _ (test (not (state_mark (words_of bytes) == mark_whole)) (refusal_is.NotWhole (state_mark (words_of bytes))) tt) (by (spoilt_word (words_of bytes))))
+whole_is bytes = by (fault_of bytes)
   where
-    by : (r : Option ℕ) → IfOther (option_map refusal_is.Spoilt r)
+    by : (r : Option Fault) → IfOther (option_map refusal_of_fault r)
     by None = tt
-    by (Some n) = tt
+    by (Some (not_a_world n)) = tt
+    by (Some (not_whole n)) = tt
+    by (Some (spoilt n)) = tt
 
 world_is : (l : Line) (m : Model) → IfOther (by_world l m)
 world_is (line.OutLoad path) m = found (file_at m (ByPath path)) _ (λ f. test _ (refusal_is.NotAWorld (length_of m f)) tt)

@@ -20,9 +20,10 @@ use Rattle.session_model.specs.Refusals.{dir_at, no_world, when_missing}
 use Rattle.session_model.specs.Replies.{refusal, unless_refused}
 use Rattle.session_model.specs.Streams.{Stream, bytes_in}
 use Rattle.session_model.specs.Worlds.{World, with_word, world_with_zone}
-use Rattle.laws_session.specs.ZoneLaws.{FillZone, HasMemory, LinesLeaveAMemory}
-use Rattle.laws_session.proofs.inside.Blocking.{given_back_fills_the_zone, taken_fills_the_zone, word_fills_the_zone}
-use Rattle.laws_session.proofs.inside.Levelling.{counter_junta_fills_the_zone, junta_fills_the_zone}
+use Rattle.laws_zone.specs.Filling.{FillZone}
+use Rattle.laws_zone.proofs.blocks.Laws.{given_back_fills_the_zone, taken_fills_the_zone, word_fills_the_zone}
+use Rattle.laws_zone.proofs.levels.Laws.{counter_junta_fills_the_zone, junta_fills_the_zone}
+use Rattle.laws_session.specs.ZoneLaws.{HasMemory, LinesLeaveAMemory}
 use Rattle.laws_session.proofs.inside.Loading.{both_hold, loaded_worlds_have_a_memory, no_image}
 use Rattle.laws_session.proofs.inside.OneFile.{is_found, of_found}
 use Rattle.laws_session.proofs.inside.Passing.{neither, passes}
@@ -86,10 +87,10 @@ left_by (line.Junta level) m w h none =
     let some = leb-true 1 level bounds.0 in
     let least = h.least in
     let most = h.most in
-    record { least = omega (arith, some, least); most = omega (arith, most); user = h.user; fills = junta_fills_the_zone w level most h.fills }
+    record { least = omega (arith, some, least); most = omega (arith, most); user = h.user; fills = junta_fills_the_zone w.level level w.zone most h.fills }
 left_by line.CounterJunta m w h none =
     let unused = no_image refusal_is.InUse (used_by_levels w.zone) (passes line.CounterJunta m w none).memory in
-    record { least = omega arith; most = omega arith; user = h.user; fills = counter_junta_fills_the_zone w h.most unused h.fills }
+    record { least = omega arith; most = omega arith; user = h.user; fills = counter_junta_fills_the_zone w.level w.zone h.most unused h.fills }
 left_by (line.OutLoad path) m w h none = h
 left_by (line.InLoad path message) m w h none =
     let t = passes (line.InLoad path message) m w none in

@@ -26,7 +26,7 @@ use Rattle.session_model.specs.exec_words.specs.Texts.{done_text}
 use Rattle.session_model.specs.Answering.{Answered, Answers, Replied, reply_of, reply_unless, plain_reply}
 use Rattle.session_model.specs.Effects.{effect}
 use Rattle.session_model.specs.Replies.{ops, reply_to, refusal, text_unless, unless_refused}
-use Rattle.session_model.specs.Turning.{State, Cue, typed, ended, StandsOn, plain, failed, TurnMade, turn_of, asks_scavenge, closes, cue_line, cue_moves, cue_ops, cue_text, cue_world, is_quit, is_scavenge}
+use Rattle.session_model.specs.Turning.{State, Cue, typed, aside, ended, StandsOn, plain, failed, TurnMade, turn_of, asks_scavenge, closes, cue_line, cue_moves, cue_ops, cue_text, cue_world, is_quit, is_scavenge}
 use Rattle.session_model.specs.Worlds.{World}
 use Rattle.laws_session.specs.AnswerLaws.{HasText}
 use Rattle.laws_session.specs.LineAnswers.{BrokenLinesAnswer, EndsInNeedAnswer, EndsOnASoundPackAnswer, GoesOnWith, LinesOnASoundPackAnswer, PrefixesAnswer, SilentLinesAnswer, plain_state}
@@ -45,6 +45,7 @@ text_by (Some x) b text done = refl
 
 plain_text : (s : State) (cue : Cue) → cue_text s cue ≡ reply_text (plain_reply s cue)
 plain_text s (typed l) = text_by (refusal l s.model s.world) (is_quit l) (effect l s.model s.world).text (quit_text l s.model s.world)
+plain_text s (aside text) = refl
 plain_text s ended = refl
 
 has_text : (s : State) (cue : Cue) → HasText (plain_reply s cue)
@@ -53,6 +54,7 @@ has_text s (typed l) = by (refusal l s.model s.world) (is_quit l) (reply_to l s.
   by None true text = tt
   by None false text = tt
   by (Some x) b text = tt
+has_text s (aside text) = tt
 has_text s ended = tt
 
 answers_with_text : (p : Pack) (s : State) (cue : Cue) (wrote : List Event) (moves : List Move) (r : Reply) (u : State) → HasText r → Replied p s cue wrote moves r u → Answers p s cue wrote moves r u
@@ -151,6 +153,7 @@ quit_asks l r e = absurd (never r e)
 -- what ends the session asks for no scavenge
 end_asks : (s : State) (cue : Cue) → closes s cue ≡ true → asks_scavenge s cue ≡ false
 end_asks s (typed l) e = quit_asks l (refusal l s.model s.world) e
+end_asks s (aside text) e = cc
 end_asks s ended e = refl
 
 end_moves_are : (p : Pack) (s : State) (cue : Cue) → closes s cue ≡ true → cue_moves p s cue ≡ ending_moves s.world.need (mark_of (sights p)) s.model (cue_ops s cue)

@@ -1,26 +1,38 @@
 -- Worlds with a memory: one that is kept, that of a session as it begins, and that of a file.
-use Rattle.std.proofs.Common.{◌≡◌, ◌≤◌, ℕ, ◌+◌, ◌-◌, ◌==◌, ◌&&◌, Bool, true, false, not, cond, List, None, Option, Some, refl, ◌∙◌, length, take, replicate, arith}
+use Rattle.std.proofs.Common.{◌≡◌, ◌≤◌, ℕ, ◌+◌, ◌-◌, ◌==◌, ◌&&◌, Bool, true, false, cond, List, None, Option, Some, refl, ap, ◌∙◌, length, take, replicate, arith}
 use Rattle.std.proofs.lemmas.Bool.{eqb-true, leb-true}
 use Rattle.std.proofs.lemmas.List.{length-append, length-drop, length-replicate}
 use Rattle.std.specs.Option.{option_map, option_or}
 use Rattle.std.specs.Prelude.{nat_le}
 use Rattle.laws_line.specs.pack_model.specs.reading.Bytes.{words_of}
 use Rattle.laws_line.specs.pack_laws.proofs.Bytes.{length-put_at, length-words_of}
-use Rattle.session_model.specs.exec_words.specs.declared.reply.Refusal.{Refusal}
-use Rattle.session_model.specs.exec_words.specs.declared.reply.Refusal.TheVariants as refusal_is
 use Rattle.session_model.specs.world_model.specs.Levels.{IsAtLevel, all_levels, level_base}
-use Rattle.session_model.specs.world_model.specs.StateFiles.{mark_whole, message_bytes, message_length, spoilt_memory, spoilt_word, state_length, state_level, state_mark, state_memory}
-use Rattle.session_model.specs.world_model.specs.ZoneWords.{first_broken, memory_length, tag_size, zone_start}
-use Rattle.session_model.specs.Refusals.{no_world, when}
-use Rattle.laws_session.specs.ZoneLaws.{FreshWorldsHaveAMemory, KeptWorldsHaveAMemory, LoadedWorldsHaveAMemory}
-use Rattle.laws_session.proofs.inside.Blocking.{even_rest}
-use Rattle.laws_session.proofs.inside.Levelling.{base_even}
-use Rattle.laws_session.proofs.inside.Passing.{neither, when_not}
-use Rattle.laws_session.proofs.inside.Remembering.{above_start, memories_have_such_zones}
+use Rattle.session_model.specs.world_model.specs.StateFiles.{Fault, IsState, fault_of, length_fault, mark_fault, message_bytes, message_length, not_a_world, spoilt, spoilt_memory, spoilt_word, state_length, state_level, state_mark, state_memory}
+use Rattle.session_model.specs.world_model.specs.ZoneWords.{first_broken, memory_length, tag_size, zone_in, zone_start}
+use Rattle.session_model.specs.Refusals.{refusal_of_fault}
+use Rattle.laws_zone.specs.MemoryLaws.{ReadsBack}
+use Rattle.laws_zone.proofs.Sizes.{even_rest, low_of}
+use Rattle.laws_zone.proofs.levels.Laws.{bases_are_within, bases_end_zones}
+use Rattle.laws_zone.proofs.memories.Laws.{memories_have_such_zones, zones_read_back}
+use Rattle.laws_session.specs.ZoneLaws.{FreshWorldsHaveAMemory, KeptWorldsHaveAMemory, LoadedWorldsHaveAMemory, WorldsAreKept}
+use Rattle.laws_session.proofs.inside.Passing.{neither}
 
 -- ---- worlds that are kept, and that of a file
 pub kept_worlds_have_a_memory : KeptWorldsHaveAMemory
-kept_worlds_have_a_memory k h = let z = memories_have_such_zones k.level k.memory h in record { least = h.least; most = h.most; user = z.1; fills = z.0 }
+kept_worlds_have_a_memory k h = let z = memories_have_such_zones (level_base k.level) k.memory (bases_end_zones k.level h.most) h.memory_is in record { least = h.least; most = h.most; user = z.1; fills = z.0 }
+
+pub worlds_are_kept : WorldsAreKept
+worlds_are_kept k w start fills h = λ i. record {
+  moment = h.moment i;
+  level = h.level i;
+  user = (ap (take zone_start) h.memory ∙ back.user_is) i;
+  zone = ((λ j. zone_in (level_base (h.level j)) (h.memory j)) ∙ back.zone_is) i;
+  streams = h.streams i;
+  need = h.need i;
+}
+  where
+    back : ReadsBack (level_base w.level) w.user w.zone
+    back = zones_read_back (level_base w.level) w.user w.zone (bases_are_within w.level) start fills
 
 some_below_all : 1 ≤ level_base all_levels - zone_start
 unfolding level_base
@@ -38,17 +50,13 @@ fresh_worlds_have_a_memory moment = record {
     eight = omega arith
 
     low : zone_start ≤ level_base all_levels
-    low = above_start all_levels eight
+    low = low_of (level_base all_levels) (bases_end_zones all_levels eight)
 
     even : tag_size (level_base all_levels - zone_start) ≡ level_base all_levels - zone_start
-    even = even_rest (level_base all_levels) zone_start (base_even all_levels eight) refl low
+    even = even_rest (level_base all_levels) zone_start (bases_end_zones all_levels eight).even refl low
 
     ends : zone_start + (level_base all_levels - zone_start + 0) ≡ level_base all_levels
     ends = omega (arith, low)
-
-is_not : (b : Bool) → not b ≡ false → b ≡ true
-is_not true e = refl
-is_not false e = absurd cc
 
 pub both_hold : (a b : Bool) → (a && b) ≡ true → (a ≡ true) × (b ≡ true)
 both_hold true true e = (refl, refl)
@@ -64,8 +72,13 @@ tested : (b : Bool) (at : ℕ) (o : Option ℕ) → cond b o (Some at) ≡ None 
 tested true at o e = (refl, e)
 tested false at o e = absurd cc
 
+-- a test that finds no fault
+no_fault : {X : Type 0} (b : Bool) (x : X) → cond b None (Some x) ≡ None → b ≡ true
+no_fault true x e = refl
+no_fault false x e = absurd cc
+
 -- The file of a whole world has the words of a memory of its level.
-whole_is_a_memory : (bytes : List ℕ) → no_world bytes ≡ None → IsAtLevel (state_level (words_of bytes)) (state_memory (words_of bytes))
+whole_is_a_memory : (bytes : List ℕ) → IsState bytes → IsAtLevel (state_level (words_of bytes)) (state_memory (words_of bytes))
 whole_is_a_memory bytes none = record {
   least = leb-true 1 level bounds.0;
   most = leb-true level all_levels bounds.1;
@@ -78,20 +91,20 @@ whole_is_a_memory bytes none = record {
     memory : List ℕ
     memory = state_memory (words_of bytes)
 
-    by_length : Option Refusal
-    by_length = when (not (length bytes == state_length)) (refusal_is.NotAWorld (length bytes))
+    by_length : Option Fault
+    by_length = length_fault (length bytes)
 
-    by_mark : Option Refusal
-    by_mark = when (not (state_mark (words_of bytes) == mark_whole)) (refusal_is.NotWhole (state_mark (words_of bytes)))
+    by_mark : Option Fault
+    by_mark = mark_fault (state_mark (words_of bytes))
 
-    by_word : Option Refusal
-    by_word = option_map refusal_is.Spoilt (spoilt_word (words_of bytes))
+    by_word : Option Fault
+    by_word = option_map spoilt (spoilt_word (words_of bytes))
 
     parts : (by_length ≡ None) × (option_or by_mark by_word ≡ None)
     parts = neither by_length (option_or by_mark by_word) none
 
     unspoilt : spoilt_word (words_of bytes) ≡ None
-    unspoilt = no_image refusal_is.Spoilt (spoilt_word (words_of bytes)) (neither by_mark by_word parts.1).1
+    unspoilt = no_image spoilt (spoilt_word (words_of bytes)) (neither by_mark by_word parts.1).1
 
     level_is : ((nat_le 1 level && nat_le level all_levels) ≡ true) × (spoilt_memory (words_of bytes) ≡ None)
     level_is = tested (nat_le 1 level && nat_le level all_levels) 1 (spoilt_memory (words_of bytes)) unspoilt
@@ -100,7 +113,7 @@ whole_is_a_memory bytes none = record {
     bounds = both_hold (nat_le 1 level) (nat_le level all_levels) level_is.0
 
     size : length bytes ≡ state_length
-    size = eqb-true (length bytes) state_length (is_not (length bytes == state_length) (when_not (not (length bytes == state_length)) (refusal_is.NotAWorld (length bytes)) parts.0))
+    size = eqb-true (length bytes) state_length (no_fault (length bytes == state_length) (not_a_world (length bytes)) parts.0)
 
     long : length memory ≡ memory_length
     long = let words = length-words_of bytes in let rest = length-drop 2 (words_of bytes) in omega (arith, words, rest, size)
@@ -115,8 +128,8 @@ message_fits message short =
 
 pub loaded_worlds_have_a_memory : LoadedWorldsHaveAMemory
 loaded_worlds_have_a_memory w bytes message none short =
-    let at = whole_is_a_memory bytes none in
-    let z = memories_have_such_zones (state_level (words_of bytes)) (state_memory (words_of bytes)) at in
+    let at = whole_is_a_memory bytes (no_image refusal_of_fault (fault_of bytes) none) in
+    let z = memories_have_such_zones (level_base (state_level (words_of bytes))) (state_memory (words_of bytes)) (bases_end_zones (state_level (words_of bytes)) at.most) at.memory_is in
     let front : List ℕ = take zone_start (state_memory (words_of bytes)) in
     let long = z.1 in
     let fits = message_fits message short in

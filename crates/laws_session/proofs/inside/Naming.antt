@@ -11,7 +11,7 @@ use Rattle.session_model.specs.exec_words.specs.declared.reply.Refusal.TheVarian
 use Rattle.session_model.specs.exec_words.specs.declared.reply.Reply.TheVariants as reply
 use Rattle.session_model.specs.Answering.{plain_reply, reply_of, reply_unless}
 use Rattle.session_model.specs.Replies.{refusal as refusal_to, reply_to}
-use Rattle.session_model.specs.Turning.{State, Cue, typed, ended, HintFailing, TurnKind, plain, failed, scavenged, cue_files, is_quit}
+use Rattle.session_model.specs.Turning.{State, Cue, typed, aside, ended, HintFailing, TurnKind, plain, failed, scavenged, cue_files, is_quit}
 use Rattle.session_model.specs.Worlds.{World, failed_world}
 use Rattle.laws_session.specs.CallLaws.{AnswersNameAFailedHint}
 use Rattle.laws_session.proofs.inside.Filling.{refusals_name_no_hint}
@@ -19,6 +19,7 @@ use Rattle.laws_session.proofs.inside.Filling.{refusals_name_no_hint}
 -- a plain reply names none
 no_plain_one : (s : State) (cue : Cue) (place : Place) (at : ℕ) (wanted : Page) (found : Option (List ℕ)) → reply.Refused (refusal.HintFailed place at wanted found) ≡ plain_reply s cue → ⊥
 no_plain_one s ended place at wanted found e = absurd cc
+no_plain_one s (aside text) place at wanted found e = absurd cc
 no_plain_one s (typed l) place at wanted found e = by (refusal_to l s.model s.world) refl e
   where
     answered : (b : Bool) → reply.Refused (refusal.HintFailed place at wanted found) ≡ cond b reply.Quit (reply.Done (reply_to l s.model s.world)) → ⊥

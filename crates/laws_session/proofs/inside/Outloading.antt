@@ -23,6 +23,7 @@ use Rattle.session_model.specs.exec_words.specs.declared.line.Path.{Path}
 use Rattle.session_model.specs.exec_words.specs.declared.line.Target.{Target}
 use Rattle.session_model.specs.exec_words.specs.declared.line.Target.TheVariants.{ByPath}
 use Rattle.session_model.specs.exec_words.specs.declared.reply.Refusal.TheVariants as refusal_is
+use Rattle.session_model.specs.world_model.specs.Levels.{level_base}
 use Rattle.session_model.specs.world_model.specs.StateFiles.{mark_begun, mark_whole, state_length}
 use Rattle.session_model.specs.world_model.specs.ZoneWords.{memory_length}
 use Rattle.session_model.specs.Effects.{appended_ops, made_ops, next_file, outload_ops, world_ops, world_puts}
@@ -31,6 +32,8 @@ use Rattle.session_model.specs.Operands.{Operand, world}
 use Rattle.session_model.specs.Refusals.{missing_file, no_dir, takes_world, when_found, when_missing, wrong_kind, wrong_system}
 use Rattle.session_model.specs.Streams.{grows, puts}
 use Rattle.session_model.specs.Worlds.{World, memory_words, world_bytes}
+use Rattle.laws_zone.proofs.levels.Laws.{bases_are_within}
+use Rattle.laws_zone.proofs.memories.Laws.{zones_read_back}
 use Rattle.laws_session.specs.UnrefusedLaws.{HasFile, IsUnrefused, MakesFile, OutLoadMayBegin, StatesStored, TakesWorld, ops_on}
 use Rattle.laws_session.specs.ZoneLaws.{HasMemory}
 use Rattle.laws_session.proofs.inside.Changing.{appended_leave, grows_leave, leave_then, length_put, length_puts, puts_leave}
@@ -38,13 +41,12 @@ use Rattle.laws_session.proofs.inside.Named.{meant_lives}
 use Rattle.laws_session.proofs.inside.Newcomers.{below_most, gives_free_name, makes_file_of, next_ordinary, ordinary_may_stand, takes_name, unmarked}
 use Rattle.laws_session.proofs.inside.OneFile.{IsThere, has_file, line_of, of_found}
 use Rattle.laws_session.proofs.inside.Passing.{neither, passes, when_not}
-use Rattle.laws_session.proofs.inside.Zoning.{zones_read_back}
 
 -- ---- the file of a world
 -- its bytes are two of the mark, two of the level, and those of the memory
 world_length : (w : World) (mark : ℕ) → HasMemory w → length (world_bytes w mark) ≡ state_length
 world_length w mark h =
-    let words : length (memory_words w) ≡ memory_length = ((zones_read_back w w.zone h.user h.fills).memory_is h.least h.most).memory_is.words in
+    let words : length (memory_words w) ≡ memory_length = (zones_read_back (level_base w.level) w.user w.zone (bases_are_within w.level) h.user h.fills).memory_is.words in
     let bytes = length-bytes_of (mark ∷ w.level ∷ memory_words w) in
     omega (arith, words, bytes)
 

@@ -23,7 +23,7 @@ use Rattle.session_model.specs.exec_words.specs.declared.line.Line.TheVariants a
 use Rattle.session_model.specs.exec_words.specs.declared.reply.Refusal.{Refusal}
 use Rattle.session_model.specs.Replies.{refusal, unless_refused}
 use Rattle.session_model.specs.Touched.{touched}
-use Rattle.session_model.specs.Turning.{State, Cue, typed, ended, TurnKind, plain, failed, scavenged, asks_scavenge, cue_files, is_scavenge, scavenge_moves}
+use Rattle.session_model.specs.Turning.{State, Cue, typed, aside, ended, TurnKind, plain, failed, scavenged, asks_scavenge, cue_files, is_scavenge, scavenge_moves}
 use Rattle.session_model.specs.Worlds.{World}
 use Rattle.laws_session.specs.ScavengeLaws.{CrashesOfAScavenge, QuietWritesObey, ScavengesAreTurns, ScavengesCure, ScavengesObey}
 
@@ -87,6 +87,7 @@ none_in f l e h = apart (subst (λ k. Contains k f) e h) where
 
 asked_none : (s : State) (cue : Cue) → asks_scavenge s cue ≡ true → cue_files s cue ≡ []
 asked_none s (typed l) e = no_file l s.model s.world (refusal l s.model s.world) e
+asked_none s (aside text) e = cc
 asked_none s ended e = cc
 
 -- so no hint of it misleads

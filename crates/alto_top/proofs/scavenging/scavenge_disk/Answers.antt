@@ -8,7 +8,7 @@ returns-in_ok-text-in-Ok-clause-scavenges g c = λ told.
     let all = c.in-Ok.ensures.scavenges told in
     let same = (c.flush_disk.ensures.told told).1 in
     rw same (record {
-      writes = writes_of_scavenge all;
+      writes = writes_of_scavenge all (c.in-Ok.ensures.frame told);
       tells = (record { taken = all.answers.0; ends = all.done }, reported (pack (g.D.Tape.tape c.args.disk.now)) c.in-Ok.report c.in_ok-text-in-Ok.text.items all.answers c.in_ok-text-in-Ok.ensures);
     })
 
@@ -18,7 +18,7 @@ returns-in_ok-flush_disk-in-Err-clause-scavenges g c = λ told.
     let all = c.in-Err.ensures.scavenges told in
     let same = (c.flush_disk-in-Err.ensures.told told).1 in
     rw same (record {
-      writes = writes_of_scavenge all;
+      writes = writes_of_scavenge all (c.in-Err.ensures.frame told);
       tells = refused (pack (g.D.Tape.tape c.args.disk.now)) c.in-Err.error c.in_ok-text-in-Err.text.items all.answers c.in_ok-text-in-Err.ensures;
     })
 

@@ -12,10 +12,10 @@ pub returns-in-Ok-show_all-clause-scavenges : goal.returns-in-Ok-show_all-clause
 returns-in-Ok-show_all-clause-scavenges g c = λ told.
     let shown = c.in-Ok-show_all.ensures.shown told in
     subst (ScavengesPack (g.M.Tape.tape c.args.machine.now) (g.M.Tape.tape c.show_all.new.console)) (sym c.status-in-Ok-show_all.ensures)
-    (told_whole c.in-Ok.told c.in-Ok.ensures.alone (c.in-Ok.ensures.scavenges told) c.in-Ok-show_all.ensures.alone c.text.result.now c.text.ensures _ shown shown.ok)
+    (told_whole c.in-Ok.told c.in-Ok.ensures.alone c.in-Ok.ensures.cause (c.in-Ok.ensures.scavenges told) c.in-Ok-show_all.ensures.alone c.text.result.now c.text.ensures _ shown shown.ok)
 
 pub returns-clause-scavenges : goal.returns-clause-scavenges
 returns-clause-scavenges g c = λ told.
     let shown = c.in-Err-show_all.ensures.shown told in
     subst (ScavengesPack (g.M.Tape.tape c.args.machine.now) (g.M.Tape.tape c.show_all.new.console)) (sym c.status-in-Err-show_all.ensures)
-    (told_short c.in-Ok.told c.in-Ok.ensures.alone (c.in-Ok.ensures.scavenges told) c.in-Err-show_all.ensures.alone c.text.result.now c.text.ensures _ shown c.in-Err-show_all.fault c.in-Err-show_all.ensures.cause shown.none)
+    (told_short c.in-Ok.told c.in-Ok.ensures.alone c.in-Ok.ensures.cause (c.in-Ok.ensures.scavenges told) c.in-Err-show_all.ensures.alone c.text.result.now c.text.ensures _ shown c.in-Err-show_all.fault c.in-Err-show_all.ensures.cause shown.none)

@@ -14,7 +14,7 @@ returns-clause-answers g c =
 pub returns-clause-ends : goal.returns-clause-ends
 returns-clause-ends g c =
     concludes_on _ _ _ (g.M.Tape.tape c.args.machine.now) (g.M.Tape.tape c.do_asked-answer.new.machine) (g.M.Tape.tape c.after_display.new.console) c.do_asked-answer.result c.after_display.result
-    c.do_asked-answer.ensures.touches.grown c.after_display.ensures.alone.grown c.do_asked-answer.ensures.ends c.after_display.ensures.cause c.after_display.ensures.handed_on c.after_display.ensures.displayed
+    c.do_asked-answer.ensures.touches.grown c.after_display.ensures.alone c.do_asked-answer.ensures.ends c.after_display.ensures.cause c.after_display.ensures.unfailed c.after_display.ensures.handed_on c.after_display.ensures.displayed
 
 pub returns-clause-touches : goal.returns-clause-touches
 returns-clause-touches g c = touches_on (map string_bytes c.args.words.now) c.do_asked-answer.ensures.touches c.after_display.ensures.alone

@@ -1,7 +1,9 @@
 use Rattle.std.proofs.Common.{Bool, Err, IsTrue, List, [], ap, arith, inl, inr, length, subst, sym, take, refl, ℕ, ◌*◌, ◌+◌, ◌-◌, ◌∙◌, ◌≤◌}
+use Rattle.disk_records.proofs.Framing.{writes_after_look, writes_silent}
 use Rattle.disk_records.proofs.Growing.{alone_twice}
 use Rattle.disk_records.proofs.Looking.{looks_pack, looks_twice}
 use Rattle.disk_records.specs.Causes.{never, other}
+use Rattle.disk_records.specs.Frames.{IsPageOf}
 use Rattle.disk_records.specs.Packs.{Pack}
 use Rattle.disk_records.specs.Tapes.{pack}
 use Rattle.file_pages.proofs.Valued.{look_leaves_handy, value_leaves_handy}
@@ -18,11 +20,11 @@ use Rattle.directory.specs.declared.errors.DirError.TheVariants.{NameTaken}
 use Rattle.directory.specs.declared.errors.DirError.{DirError}
 use Rattle.directory.specs.declared.place.RoomFound.{RoomFound}
 use Rattle.directory.specs.Asked.{DirIsFound}
-use Rattle.directory.specs.Entering.{has_later, to_enter}
+use Rattle.directory.specs.Entering.{has_later, to_enter, unentered}
 use Rattle.directory.specs.Errors.{IfMisled, disk_fault, out_of_memory}
 use Rattle.directory.specs.Places.{HasNoRoom}
 use Rattle.directory.proofs.Answering.{by_slots_any, cause_of_entering, never_by_slots, never_full, never_taken, same_error}
-use Rattle.directory.proofs.EntryCall.{entered, quick_thrice, words_few, words_some, words_within}
+use Rattle.directory.proofs.EntryCall.{entered, quick_thrice, words_entered, words_few, words_some, words_within}
 use Rattle.directory.proofs.EntryPages.{written_there}
 use Rattle.directory.proofs.LeavingEntry.{found_of_stands, quick_kept}
 use Rattle.directory.proofs.Misleading.{dir_never_led, misled_any, misled_map}
@@ -114,7 +116,7 @@ returns-in-Err-locate_room-clause-quiet g c told stands =
     (record { silent = looks.silent told; bits = c.locate_room.ensures.table ∙ c.find_place.ensures.table; tally = refl })
 
 pub returns-in-Err-locate_room-clause-cause : goal.returns-in-Err-locate_room-clause-cause
-returns-in-Err-locate_room-clause-cause g c = cause_of_entering {T = Unit {0}} other (g.D.Tape.tape c.args.disk.now) (g.D.Tape.tape c.find_place.new.disk) (g.D.Tape.tape c.locate_room.new.disk) (Err c.in-Err-locate_room.error) c.find_place.ensures.looks.alone.grown c.in-Err-locate_room.ensures.cause
+returns-in-Err-locate_room-clause-cause g c = cause_of_entering {T = Unit {0}} other (g.D.Tape.tape c.locate_room.new.disk) (Err c.in-Err-locate_room.error) c.find_place.ensures.looks.alone c.in-Ok.ensures.cause (λ none. none) c.in-Err-locate_room.ensures.cause
 
 pub returns-in-Err-locate_room-clause-alone : goal.returns-in-Err-locate_room-clause-alone
 returns-in-Err-locate_room-clause-alone g c = alone_twice c.find_place.ensures.looks.alone c.locate_room.ensures.looks.alone
@@ -195,7 +197,7 @@ returns-in-Ok-locate_room-clause-true_links g c told stands links =
     dir_never_led (pack (g.D.Tape.tape c.args.disk.now)) c.args.dir.now c.write_entry.result (g.met.D.Disk.formed c.args.disk.now told) stands links (returns-in-Ok-locate_room-clause-misled g c told stands)
 
 pub returns-in-Ok-locate_room-clause-cause : goal.returns-in-Ok-locate_room-clause-cause
-returns-in-Ok-locate_room-clause-cause g c = cause_of_entering never (g.D.Tape.tape c.args.disk.now) (g.D.Tape.tape c.locate_room.new.disk) (g.D.Tape.tape c.write_entry.new.disk) c.write_entry.result (alone_twice c.find_place.ensures.looks.alone c.locate_room.ensures.looks.alone).grown c.write_entry.ensures.cause
+returns-in-Ok-locate_room-clause-cause g c = cause_of_entering never (g.D.Tape.tape c.write_entry.new.disk) c.write_entry.result (alone_twice c.find_place.ensures.looks.alone c.locate_room.ensures.looks.alone) (c.in-Ok-locate_room.ensures.cause ∙ c.in-Ok.ensures.cause) (λ never. absurd never) c.write_entry.ensures.cause
 
 pub returns-in-Ok-locate_room-clause-alone : goal.returns-in-Ok-locate_room-clause-alone
 returns-in-Ok-locate_room-clause-alone g c = alone_twice (alone_twice c.find_place.ensures.looks.alone c.locate_room.ensures.looks.alone) c.write_entry.ensures.alone
@@ -221,3 +223,49 @@ returns-in-Ok-locate_room-clause-quick g c told stands quick =
     (quick_thrice p d room.place (length words) c.args.hints.now.cache c.find_place.new.hints.cache c.locate_room.new.hints.cache (g.D.Tape.tape c.args.disk.now) (g.D.Tape.tape c.find_place.new.disk) (g.D.Tape.tape c.locate_room.new.disk) (g.D.Tape.tape c.write_entry.new.disk)
     (words_some p d c.args.name.now c.args.fid c.args.leader_at room words found is) (words_within p d c.args.name.now c.args.fid c.args.leader_at room words found is) c.locate_room.ensures.refused
     (c.in-Ok.ensures.quick told quick) (c.in-Ok-locate_room.ensures.quick told kept) (c.write_entry.ensures.runs told))
+
+-- ---- the exact record writes
+pub returns-in-Err-clause-enters : goal.returns-in-Err-clause-enters
+returns-in-Err-clause-enters g c told found = unentered (record { silent = c.find_place.ensures.looks.silent told; undone = tt; other = λ memory. c.in-Err.ensures.want told (same_error RoomFound (Unit {0}) c.in-Err.error out_of_memory memory) })
+
+pub returns-in-Err-locate_room-clause-enters : goal.returns-in-Err-locate_room-clause-enters
+returns-in-Err-locate_room-clause-enters g c told found =
+    let looks = looks_twice 4298440756 c.find_place.ensures.looks c.locate_room.ensures.looks (omega arith) in
+    unentered (record { silent = looks.silent told; undone = tt; other = λ memory. c.in-Err-locate_room.ensures.want told (same_error (ℕ × ℕ) (Unit {0}) c.in-Err-locate_room.error out_of_memory memory) })
+
+pub returns-in-Ok-locate_room-clause-enters : goal.returns-in-Ok-locate_room-clause-enters
+returns-in-Ok-locate_room-clause-enters g c told stood =
+    let p = pack (g.D.Tape.tape c.args.disk.now) in
+    let d = c.args.dir.now.fid in
+    let f = c.args.fid in
+    let name = c.args.name.now in
+    let room = c.in-Ok.room in
+    let bits = c.locate_room.new.hints.table in
+    let found = c.in-Ok.ensures.found told stood in
+    let words = take c.put_entry-count.result c.put_entry-count.new.words in
+    let is = c.put_entry-count.ensures.words ∙ ap (entered_words f c.args.leader_at name) (c.saturating_sub-left.ensures ∙ ap (λ n. room.words.total - n) c.entry_words.ensures.words) in
+    let one = looks_pack c.find_place.ensures.looks told in
+    let looks = looks_twice 4298440756 c.find_place.ensures.looks c.locate_room.ensures.looks (omega arith) in
+    let few = words_few p d name f c.args.leader_at room words found is in
+    let low = room.low in
+    let short = take_short c.put_entry-count.result c.put_entry-count.new.words in
+    let most = c.put_entry-count.ensures.most in
+    let here = subst (λ (q : Pack). Stands q (page_number d (page_of_word room.place)) c.in-Ok-locate_room.at c.locate_room.new.buf) one (c.in-Ok-locate_room.ensures.stands told) in
+    let there : IsTrue (has_later room words) → Stands p (page_number d (page_of_word room.place + 1)) c.in-Ok-locate_room.next_at c.locate_room.new.next = λ more.
+    subst (λ (q : Pack). Stands q (page_number d (page_of_word room.place + 1)) c.in-Ok-locate_room.next_at c.locate_room.new.next) one (c.in-Ok-locate_room.ensures.stands_next told more (omega (arith, low, few))) in
+    words_entered p c.args.dir.now name f c.args.leader_at room words c.in-Ok-locate_room.at c.in-Ok-locate_room.next_at c.locate_room.new.buf c.locate_room.new.next bits c.args.tally.now c.write_entry.new.tally c.write_entry.result stood found is (omega (arith, short, most)) here there
+    looks.alone c.write_entry.ensures.alone (looks.silent told) (c.write_entry.ensures.writes (enter d name f) bits told)
+
+-- ---- where it writes
+pub returns-in-Err-clause-frame : goal.returns-in-Err-clause-frame
+returns-in-Err-clause-frame g c told = writes_silent (IsPageOf c.args.dir.now.fid (pack (g.D.Tape.tape c.args.disk.now))) _ (c.find_place.ensures.looks.silent told)
+
+pub returns-in-Err-locate_room-clause-frame : goal.returns-in-Err-locate_room-clause-frame
+returns-in-Err-locate_room-clause-frame g c told =
+    let looks = looks_twice 4298440756 c.find_place.ensures.looks c.locate_room.ensures.looks (omega arith) in
+    writes_silent (IsPageOf c.args.dir.now.fid (pack (g.D.Tape.tape c.args.disk.now))) _ (looks.silent told)
+
+pub returns-in-Ok-locate_room-clause-frame : goal.returns-in-Ok-locate_room-clause-frame
+returns-in-Ok-locate_room-clause-frame g c told =
+    let looks = looks_twice 4298440756 c.find_place.ensures.looks c.locate_room.ensures.looks (omega arith) in
+    writes_after_look (IsPageOf c.args.dir.now.fid) looks.alone.grown c.write_entry.ensures.alone.grown (looks.silent told) (c.write_entry.ensures.frame told)

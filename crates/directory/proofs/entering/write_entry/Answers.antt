@@ -1,7 +1,9 @@
 use Rattle.std.proofs.Common.{Err, IsTrue, Some, ◌++◌, ◌∙◌, ◌≡◌, List, ap, refl, subst, sym, arith}
 use Rattle.std.specs.Prelude.{◌==◌}
+use Rattle.disk_records.proofs.Framing.{page_by_sector, writes_then}
 use Rattle.disk_records.proofs.Growing.{alone_twice}
 use Rattle.disk_records.specs.Commands.{value_writes}
+use Rattle.disk_records.specs.Frames.{IsPageOf}
 use Rattle.disk_records.specs.Packs.{carried}
 use Rattle.disk_records.specs.Tapes.{pack}
 use Rattle.disk_records.specs.declared.records.Event.{Event}
@@ -100,3 +102,14 @@ returns-in-Err-write_first-clause-places g c told = places_twice (c.write_first.
 
 pub returns-clause-places : goal.returns-clause-places
 returns-clause-places g c told = places_twice (places_twice (c.write_first.ensures.places told) (c.write_first-2.ensures.places told)) (c.write_page.ensures.places told)
+
+pub returns-in-Err-write_first-clause-frame : goal.returns-in-Err-write_first-clause-frame
+returns-in-Err-write_first-clause-frame g c told =
+    let f = c.args.page.fid in
+    writes_then (IsPageOf f) (page_by_sector f) c.write_first.ensures.alone.grown c.write_first-2.ensures.alone.grown (c.write_first.ensures.frame told) (c.write_first-2.ensures.frame told)
+
+pub returns-clause-frame : goal.returns-clause-frame
+returns-clause-frame g c told =
+    let f = c.args.page.fid in
+    let two = writes_then (IsPageOf f) (page_by_sector f) c.write_first.ensures.alone.grown c.write_first-2.ensures.alone.grown (c.write_first.ensures.frame told) (c.write_first-2.ensures.frame told) in
+    writes_then (IsPageOf f) (page_by_sector f) (alone_twice c.write_first.ensures.alone c.write_first-2.ensures.alone).grown c.write_page.ensures.alone.grown two (c.write_page.ensures.frame told)

@@ -1,7 +1,9 @@
 use Rattle.std.proofs.Common.{Bool, Err, List, Some, [], ap, inl, inr, refl, subst, sym, ℕ, ◌∙◌, ◌≡◌}
+use Rattle.disk_records.proofs.Framing.{writes_after_look, writes_silent}
 use Rattle.disk_records.proofs.Growing.{alone_twice}
 use Rattle.disk_records.proofs.Looking.{looks_pack}
 use Rattle.disk_records.specs.Causes.{never, other}
+use Rattle.disk_records.specs.Frames.{IsPageOf}
 use Rattle.disk_records.specs.Packs.{Pack, carried}
 use Rattle.disk_records.specs.Tapes.{pack}
 use Rattle.file_pages.proofs.Valued.{look_leaves_handy, value_after_look, value_leaves_handy, value_operates}
@@ -103,7 +105,7 @@ returns-in-Err-clause-quiet g c told =
     (record { silent = c.locate_entry.ensures.looks.silent told; bits = c.locate_entry.ensures.table; tally = refl })
 
 pub returns-in-Ok-clause-cause : goal.returns-in-Ok-clause-cause
-returns-in-Ok-clause-cause g c = cause_in other never never (g.D.Tape.tape c.args.disk.now) (g.D.Tape.tape c.locate_entry.new.disk) (g.D.Tape.tape c.write_page.new.disk) c.write_page.result c.in_directory.result c.in_directory.ensures c.locate_entry.ensures.looks.alone.grown.disk_faults c.write_page.ensures.cause
+returns-in-Ok-clause-cause g c = cause_in other never never (g.D.Tape.tape c.args.disk.now) (g.D.Tape.tape c.locate_entry.new.disk) (g.D.Tape.tape c.write_page.new.disk) c.write_page.result c.in_directory.result c.in_directory.ensures c.in-Ok.ensures.cause c.write_page.ensures.cause
 
 pub returns-in-Ok-clause-quick : goal.returns-in-Ok-clause-quick
 returns-in-Ok-clause-quick g c told found quick =
@@ -115,3 +117,10 @@ returns-in-Ok-clause-handy g c told = value_leaves_handy (g.D.Tape.tape c.write_
 
 pub returns-in-Err-clause-handy : goal.returns-in-Err-clause-handy
 returns-in-Err-clause-handy g c told = look_leaves_handy c.args.hints.now.cache c.locate_entry.new.hints.cache c.locate_entry.ensures.looks told (c.locate_entry.ensures.handy told)
+
+pub returns-in-Ok-clause-frame : goal.returns-in-Ok-clause-frame
+returns-in-Ok-clause-frame g c told =
+    writes_after_look (IsPageOf c.args.dir.now.fid) c.locate_entry.ensures.looks.alone.grown c.write_page.ensures.alone.grown (c.locate_entry.ensures.looks.silent told) (c.write_page.ensures.frame told)
+
+pub returns-in-Err-clause-frame : goal.returns-in-Err-clause-frame
+returns-in-Err-clause-frame g c told = writes_silent (IsPageOf c.args.dir.now.fid (pack (g.D.Tape.tape c.args.disk.now))) _ (c.locate_entry.ensures.looks.silent told)

@@ -53,7 +53,7 @@ pub returns-in-Err-locate-clause-hint : goal.returns-in-Err-locate-clause-hint
 returns-in-Err-locate-clause-hint g c = unlocated_misled (ℕ × PageInfo) (ℕ × EntryFound) (IsOwnHint c.args.dir.now) c.in-Err-locate.error c.unlocated.result c.unlocated.ensures c.in-Err-locate.ensures.hint
 
 pub returns-in-Err-locate-clause-cause : goal.returns-in-Err-locate-clause-cause
-returns-in-Err-locate-clause-cause g c = unlocated_cause (g.D.Tape.tape c.args.disk.now) (g.D.Tape.tape c.named_entry.new.disk) (g.D.Tape.tape c.locate.new.disk) c.in-Err-locate.error c.unlocated.result c.unlocated.ensures c.named_entry.ensures.looks.alone.grown.disk_faults c.in-Err-locate.ensures.cause
+returns-in-Err-locate-clause-cause g c = unlocated_cause (g.D.Tape.tape c.args.disk.now) (g.D.Tape.tape c.named_entry.new.disk) (g.D.Tape.tape c.locate.new.disk) c.in-Err-locate.error c.unlocated.result c.unlocated.ensures c.in-Ok.ensures.cause c.in-Err-locate.ensures.cause
 
 pub returns-in-Err-locate-clause-want : goal.returns-in-Err-locate-clause-want
 returns-in-Err-locate-clause-want g c told memory = c.in-Err-locate.ensures.want told (unlocated_memory (ℕ × PageInfo) (ℕ × EntryFound) c.in-Err-locate.error c.unlocated.result c.unlocated.ensures memory)

@@ -27,6 +27,7 @@ loop-full-init g c =
     let place = c.new-walk.ensures.place in
     let held = c.new-walk.ensures.held in
     record {
+      unfailed = refl;
       walks = ([], c.new-walk.ensures.start);
       taken = omega (arith, place, held);
       looks = looks_none _ first;
@@ -153,7 +154,7 @@ pub returns-in-Err-clause-never_beyond : goal.returns-in-Err-clause-never_beyond
 returns-in-Err-clause-never_beyond g c = ended_within c.in-Err.error c.ended.result c.ended.ensures
 
 pub returns-in-Err-clause-cause : goal.returns-in-Err-clause-cause
-returns-in-Err-clause-cause g c = ended_cause (g.D.Tape.tape c.args.disk.now) (g.D.Tape.tape c.loop-full.disk) (g.D.Tape.tape c.locate.new.disk) c.in-Err.error c.ended.result c.ended.ensures c.loop-full.invariant.looks.alone.grown.disk_faults c.in-Err.ensures.cause
+returns-in-Err-clause-cause g c = ended_cause (g.D.Tape.tape c.args.disk.now) (g.D.Tape.tape c.loop-full.disk) (g.D.Tape.tape c.locate.new.disk) c.in-Err.error c.ended.result c.ended.ensures c.loop-full.invariant.unfailed c.in-Err.ensures.cause
 
 pub returns-in-Err-clause-want : goal.returns-in-Err-clause-want
 returns-in-Err-clause-want g c = λ told memory. absurd (c.in-Err.ensures.want told (ended_memory (ℕ × PageInfo) c.in-Err.error c.ended.result c.ended.ensures memory))
@@ -186,6 +187,7 @@ loop-full-preserved g c =
     let taken = c.in-Ok-visit_words.ensures.taken in
     let kept = sym c.visit_words.ensures.same in
     record {
+      unfailed = c.in-Ok.ensures.cause ∙ inv.unfailed;
       walks = let w = inv.walks in (_, (c.in-Ok-visit_words.ensures.visits w.0 w.1).walked);
       taken = let more = take_short (c.from.result / 2) c.locate.new.buf.value in let before = inv.taken in omega (arith, before, taken, more, few, same_bytes);
       looks = looks_twice _ inv.looks c.locate.ensures.looks (omega arith);

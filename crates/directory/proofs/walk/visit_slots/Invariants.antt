@@ -1,5 +1,6 @@
 use Rattle.std.proofs.Common.{◌≡◌, ◌⊎◌, ℕ, ◌+◌, ◌*◌, ◌≤◌, List, IsTrue}
 use Rattle.dir_slots.specs.Walks.{Walked}
+use Rattle.disk_records.specs.Causes.{Unfailed}
 use Rattle.disk_records.specs.Tapes.{Looks, pack}
 use Rattle.pack_model.specs.reading.Sights.{sights}
 use Rattle.pack_model.specs.states.Sentences.{EachOnce}
@@ -14,6 +15,7 @@ invariant-loop-full g l =
     let old = g.D.Tape.tape l.fn.disk in
     let now = g.D.Tape.tape l.disk in
     record {
+      unfailed : Unfailed old now;
       walks : (given : List ℕ) × Walked given l.walk;
       taken : l.walk.place + l.walk.held ≤ 256 * l.full;
       looks : Looks g.D.Tape.told (65588 * l.full) old now;

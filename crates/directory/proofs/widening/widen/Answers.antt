@@ -1,9 +1,10 @@
-use Rattle.std.proofs.Common.{List, [], ap, arith, length, subst, ℕ, ◌∷◌}
+use Rattle.std.proofs.Common.{List, [], ap, arith, length, refl, subst, ℕ, ◌∷◌}
 use Rattle.disk_records.specs.Tapes.{added, pack}
 use Rattle.disk_records.specs.Causes.{never}
 use Rattle.file_pages.specs.Growing.{growth_writes}
 use Rattle.pack_model.specs.operations.Step.Operation.{widen}
 use Rattle.directory.specs.Widening.{WrotePart}
+use Rattle.page_seeking.proofs.Erring.{on_ok_map}
 use Rattle.directory.proofs.Answering.{cause_in, misled_in, on_err_in, on_ok_in, operates_in}
 use Rattle.directory.proofs.WideningPage.{may_be_grown}
 use Rattle.directory.proofs.widening.widen.Goals as goal
@@ -19,7 +20,7 @@ returns-clause-misled g c told stands free =
     misled_in _ c.grow.result c.in_directory.result c.in_directory.ensures (c.grow.ensures.misled (widen c.args.dir.now.fid) told stands.stands may)
 
 pub returns-clause-cause : goal.returns-clause-cause
-returns-clause-cause g c = cause_in never never never (g.D.Tape.tape c.args.disk.now) (g.D.Tape.tape c.args.disk.now) (g.D.Tape.tape c.grow.new.disk) c.grow.result c.in_directory.result c.in_directory.ensures (omega arith) c.grow.ensures.cause
+returns-clause-cause g c = cause_in never never never (g.D.Tape.tape c.args.disk.now) (g.D.Tape.tape c.args.disk.now) (g.D.Tape.tape c.grow.new.disk) c.grow.result c.in_directory.result c.in_directory.ensures refl c.grow.ensures.cause
 
 pub returns-clause-quick : goal.returns-clause-quick
 returns-clause-quick g c told stands free quick named =
@@ -61,3 +62,7 @@ pub returns-clause-quiet : goal.returns-clause-quiet
 returns-clause-quiet g c told stands free =
     let may = may_be_grown (pack (g.D.Tape.tape c.args.disk.now)) c.args.dir.now.fid c.free_page.result c.args.fresh stands.directory c.free_page.ensures free in
     misled_in _ c.grow.result c.in_directory.result c.in_directory.ensures (c.grow.ensures.quiet (widen c.args.dir.now.fid) told stands.stands may)
+
+pub returns-clause-was_free : goal.returns-clause-was_free
+returns-clause-was_free g c told =
+    on_ok_in _ c.grow.result c.in_directory.result c.in_directory.ensures (on_ok_map c.grow.result (λ all. all 0 0 (omega arith)) (c.grow.ensures.were_free told))

@@ -1,4 +1,5 @@
 use Rattle.std.proofs.Common.{◌≡◌, ◌+◌, ◌-◌, ◌*◌, ◌≤◌, IsTrue, length}
+use Rattle.disk_records.specs.Causes.{Unfailed}
 use Rattle.disk_records.specs.Tapes.{DiskAlone, added, pack}
 use Rattle.disk_descriptor.specs.Writing.{AreOwnValues}
 use Rattle.disk_descriptor.proofs.Closings.{done}
@@ -10,6 +11,7 @@ invariant-loop-left g l =
     let now = g.D.Tape.tape l.disk in
     record {
       alone : DiskAlone old now;
+      unfailed : Unfailed old now;
       within : l.left ≤ length l.pages;
       wrote : IsTrue g.D.Tape.told → added old now ≡ done old.form l.last l.table l.pages l.left;
       own : IsTrue g.D.Tape.told → AreOwnValues (pack old) l.pages (length l.pages) (added old now);

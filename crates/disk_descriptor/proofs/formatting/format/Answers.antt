@@ -27,6 +27,7 @@ loop-at-preserved g c =
     let is = c.sector.ensures ∙ ap (λ (s : Shape). sector_at (formatted s c.args.number c.args.moment) c.loop-at.at) c.shape-shape.ensures in
     record {
       alone = alone_twice c.loop-at.invariant.alone c.in_ok-write_sector.ensures.alone;
+      unfailed = c.in_ok-write_sector.ensures.cause ∙ c.loop-at.invariant.unfailed;
       end = end;
       wrote = λ told. more_written c.args.number c.args.moment c.loop-at.at c.sector.result c.loop-at.invariant.alone c.in_ok-write_sector.ensures.alone low (c.loop-at.invariant.wrote told) is (c.in_ok-write_sector.ensures.writes told).ok;
       runs = λ told. let ran = c.loop-at.invariant.runs told in let once = (c.in_ok-write_sector.ensures.writes told).runs in omega (arith, ran, once);

@@ -23,6 +23,9 @@ returns-in-Ok-clause-opened g c = λ told may.
     let p = pack (g.D.Tape.tape c.args.disk.now) in
     c.keep_read.ensures.opened p (subst (λ (f : Fid). IsRead p f c.read_file.new.words c.read_file.new.pages c.in-Ok.size) may.is_descriptor (c.in-Ok.ensures.read told may.once)) (sym c.shape-shape.ensures)
 
+pub returns-in-Ok-clause-clean_page : goal.returns-in-Ok-clause-clean_page
+returns-in-Ok-clause-clean_page g c = λ told. c.keep_read.ensures.clean_page (pack (g.D.Tape.tape c.args.disk.now)) c.args.entry.now.fid (c.in-Ok.ensures.first_page told) (sym c.shape-shape.ensures)
+
 pub returns-in-Ok-clause-wrong_length : goal.returns-in-Ok-clause-wrong_length
 returns-in-Ok-clause-wrong_length g c = λ told may.
     let p = pack (g.D.Tape.tape c.args.disk.now) in
@@ -45,7 +48,7 @@ pub returns-in-Ok-clause-on_disk : goal.returns-in-Ok-clause-on_disk
 returns-in-Ok-clause-on_disk g c = λ told may. open_misled c.keep_read.result (λ place at wanted found. IsOnDisk place) c.keep_read.ensures.misled
 
 pub returns-in-Ok-clause-cause : goal.returns-in-Ok-clause-cause
-returns-in-Ok-clause-cause g c = c.keep_read.ensures.cause (g.D.Tape.tape c.args.disk.now) (g.D.Tape.tape c.read_file.new.disk)
+returns-in-Ok-clause-cause g c = c.keep_read.ensures.cause (g.D.Tape.tape c.args.disk.now) (g.D.Tape.tape c.read_file.new.disk) c.in-Ok.ensures.cause
 
 -- ---- it wasn't
 pub returns-in-Err-clause-wrong_length : goal.returns-in-Err-clause-wrong_length

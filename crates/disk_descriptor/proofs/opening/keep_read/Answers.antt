@@ -2,6 +2,7 @@ use Rattle.std.proofs.Common.{None, ap, arith, drop, sym, take, ◌+◌, ◌-◌
 use borrow.Rule.Slice.PartMut.{mid_of}
 use Rattle.disk_records.specs.Addresses.{descriptor_length, table_words}
 use Rattle.hint_cache.specs.Bits.{bits_in}
+use Rattle.disk_descriptor.proofs.FirstPage.{clean_page}
 use Rattle.disk_descriptor.proofs.Opened.{opened}
 use Rattle.disk_descriptor.specs.Opening.{bad_word, shape_words}
 use Rattle.disk_descriptor.proofs.opening.keep_read.Goals as goal
@@ -18,3 +19,6 @@ returns-clause-opened c = λ p read same.
     let map_is : map_words ≡ take (table_words shape) (drop 16 words) = ap (λ n. take n (drop 16 words)) many in
     let table = c.fill_table.ensures.bits ∙ ap (λ n. bits_in n map_words) c.requires.sized in
     opened p shape words pages c.args.size read same is c.fill_table.new.table map_words right (omega arith) (omega arith) c.if-words-ne-CLEAN.false map_is table
+
+pub returns-clause-clean_page : goal.returns-clause-clean_page
+returns-clause-clean_page c = λ p f first same. clean_page p f c.args.shape c.args.words.now first same (sym c.bad_word.ensures ∙ c.in_default.is) c.if-words-ne-CLEAN.false

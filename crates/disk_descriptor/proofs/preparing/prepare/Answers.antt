@@ -1,4 +1,4 @@
-use Rattle.std.proofs.Common.{Err, ap, arith, rules, subst, suc, sym, ℕ, ◌*◌, ◌+◌, ◌-◌, ◌/◌, ◌∙◌, ◌≡◌, ◌≤◌}
+use Rattle.std.proofs.Common.{Err, ap, arith, refl, rules, subst, suc, sym, ℕ, ◌*◌, ◌+◌, ◌-◌, ◌/◌, ◌∙◌, ◌≡◌, ◌≤◌}
 use Rattle.disk_records.proofs.FirstOnes.{first_all}
 use Rattle.disk_records.proofs.Growing.{alone_here, alone_twice, nothing_added}
 use Rattle.disk_records.specs.Addresses.{pages_of}
@@ -21,6 +21,7 @@ loop-at-preserved g c =
     let next : suc done ≡ c.loop-at.at + 1 - drive = omega (arith, so_far.begins) in
     record {
       alone = alone_twice so_far.alone c.in_ok-prepare_sector.ensures.alone;
+      unfailed = c.in_ok-prepare_sector.ensures.cause ∙ so_far.unfailed;
       begins = omega (arith, so_far.begins);
       end = so_far.end;
       wrote = λ told. sector_done c.args.number drive c.loop-at.at done so_far.alone c.in_ok-prepare_sector.ensures.alone is (so_far.wrote told) (c.in_ok-prepare_sector.ensures.writes told).ok ∙ ap (preparing_writes old.form c.args.number drive) next;
@@ -68,6 +69,7 @@ loop-at-init g c =
     let none : 0 ≡ c.pages-first.result / 2 - drive = omega (arith, both, here) in
     record {
       alone = alone_here old;
+      unfailed = refl;
       begins = omega (arith, both, here);
       end = c.pages-at-end.ensures ∙ ap pages_of c.shape-shape.ensures;
       wrote = λ told. nothing_added old.events ∙ ap (preparing_writes old.form c.args.number drive) none;

@@ -10,6 +10,7 @@ use Rattle.page_seeking.proofs.Erring.{if_misled_map}
 use Rattle.page_seeking.proofs.Seeking.{misled_before}
 use Rattle.page_seeking.specs.Refs.{FileIsFrom, FileIsRooted, IfBeyond, MisledBy}
 use Rattle.page_seeking.specs.Seeking.{IsEnd, Stands, page_number}
+use Rattle.disk_descriptor.proofs.FirstPage.{first_goes_on}
 use Rattle.disk_descriptor.proofs.PagesRead.{cause_before, handy_twice, misled_as, never_past, read_all_pages, read_last, read_more, read_none, sectors_kept}
 use Rattle.disk_descriptor.proofs.reading.read_file.Goals as goal
 
@@ -21,6 +22,8 @@ loop-full-init g c =
       room = omega arith;
       sectors = c.requires.sectors;
       looks = looks_none _ first;
+      unfailed = refl;
+      first_page = λ told some. absurd (omega (arith, some));
       table = refl;
       refused = omega arith;
       handy = λ told whole links f handy. handy;
@@ -35,6 +38,14 @@ returns-then-info-ne-PAGE_BYTES-clause-read g c = λ told once.
     let kept = c.keep_page.ensures in
     let stands = subst (λ (q : Pack). Stands q (page_number f (c.loop-full.full + 1)) c.in-Ok.at c.locate.new.buf) (looks_pack inv.looks told) (c.in-Ok.ensures.stands told) in
     read_last p f c.loop-full.full c.in-Ok.at (g.D.Tape.tape c.loop-full.disk).form c.in-Ok.info c.locate.new.buf c.loop-full.words c.loop-full.pages c.keep_page.new.words c.keep_page.new.pages once c.in-Ok.ensures.seen stands (inv.read told once) inv.many inv.room kept.words kept.pages kept.others c.if-info-ne-PAGE_BYTES.true
+
+pub returns-then-info-ne-PAGE_BYTES-clause-first_page : goal.returns-then-info-ne-PAGE_BYTES-clause-first_page
+returns-then-info-ne-PAGE_BYTES-clause-first_page g c = λ told.
+    let inv = c.loop-full.invariant in
+    let kept = c.keep_page.ensures in
+    let f = c.args.file.now.fid in
+    let stands = subst (λ (q : Pack). Stands q (page_number f (c.loop-full.full + 1)) c.in-Ok.at c.locate.new.buf) (looks_pack inv.looks told) (c.in-Ok.ensures.stands told) in
+    first_goes_on (pack (g.D.Tape.tape c.args.disk.now)) f c.loop-full.full c.in-Ok.at (g.D.Tape.tape c.loop-full.disk).form c.in-Ok.info c.locate.new.buf c.loop-full.words c.keep_page.new.words c.in-Ok.ensures.seen stands inv.many kept.words kept.other_words (inv.first_page told)
 
 pub returns-then-info-ne-PAGE_BYTES-clause-sectors : goal.returns-then-info-ne-PAGE_BYTES-clause-sectors
 returns-then-info-ne-PAGE_BYTES-clause-sectors g c =
@@ -71,7 +82,7 @@ returns-in-Err-clause-beyond g c = λ told once.
     (subst (λ (q : Pack). IfBeyond {T = ℕ × PageInfo} (Err c.in-Err.error) (IsEnd q f (c.loop-full.full + 1))) (looks_pack inv.looks told) (c.in-Err.ensures.ends told))
 
 pub returns-in-Err-clause-cause : goal.returns-in-Err-clause-cause
-returns-in-Err-clause-cause g c = cause_before (g.D.Tape.tape c.args.disk.now) (g.D.Tape.tape c.loop-full.disk) (g.D.Tape.tape c.locate.new.disk) c.in-Err.error c.loop-full.invariant.looks.alone.grown.disk_faults c.in-Err.ensures.cause
+returns-in-Err-clause-cause g c = cause_before (g.D.Tape.tape c.args.disk.now) (g.D.Tape.tape c.loop-full.disk) (g.D.Tape.tape c.locate.new.disk) c.in-Err.error c.loop-full.invariant.unfailed c.in-Err.ensures.cause
 
 pub returns-in-Err-clause-looks : goal.returns-in-Err-clause-looks
 returns-in-Err-clause-looks g c = looks_twice _ c.loop-full.invariant.looks c.locate.ensures.looks (omega arith)
@@ -93,6 +104,9 @@ loop-full-preserved g c =
       room = kept.room;
       sectors = sectors_kept old.form c.loop-full.full c.in-Ok.at c.loop-full.pages c.keep_page.new.pages inv.sectors seen.first (subst (λ (s : Shape). c.in-Ok.at < pages_of s) inv.looks.alone.grown.form seen.last) kept.pages kept.others;
       looks = looks_twice _ inv.looks c.locate.ensures.looks (omega arith);
+      unfailed = c.in-Ok.ensures.cause ∙ inv.unfailed;
+      first_page = λ told some.
+          first_goes_on p f c.loop-full.full c.in-Ok.at here.form c.in-Ok.info c.locate.new.buf c.loop-full.words c.keep_page.new.words seen (subst (λ (q : Pack). Stands q (page_number f (c.loop-full.full + 1)) c.in-Ok.at c.locate.new.buf) (looks_pack inv.looks told) (c.in-Ok.ensures.stands told)) inv.many kept.words kept.other_words (inv.first_page told);
       table = c.locate.ensures.table ∙ inv.table;
       refused = let a = inv.refused in let b = c.locate.ensures.refused in omega (arith, a, b);
       handy = λ told. handy_twice p (pack here) c.args.hints.now.cache c.loop-full.hints.cache c.locate.new.hints.cache (looks_pack inv.looks told) (inv.handy told) (c.locate.ensures.handy told);
@@ -103,3 +117,6 @@ loop-full-preserved g c =
 
 pub returns-clause-read : goal.returns-clause-read
 returns-clause-read g c = λ told once. read_all_pages (pack (g.D.Tape.tape c.args.disk.now)) c.args.file.now.fid c.loop-full.full c.loop-full.words c.loop-full.pages (omega arith) (c.loop-full.invariant.read told once)
+
+pub returns-clause-first_page : goal.returns-clause-first_page
+returns-clause-first_page g c = λ told. c.loop-full.invariant.first_page told (omega arith)

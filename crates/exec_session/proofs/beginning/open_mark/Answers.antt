@@ -39,7 +39,7 @@ returns-clause-starts g c = λ one at reserved told may.
     }
 
 pub returns-in_err-mark_open-clause-cause : goal.returns-in_err-mark_open-clause-cause
-returns-in_err-mark_open-clause-cause g c = cause_passed (g.D.Tape.tape c.args.disk.now) (g.D.Tape.tape c.mark_open.new.disk) (stop_of_desc c.in_err-mark_open.field-0.0) c.from_residual.result c.from_residual.ensures.1 (cause_by_desc never (g.D.Tape.tape c.args.disk.now) (g.D.Tape.tape c.mark_open.new.disk) c.in_err-mark_open.field-0.0 c.in_err-mark_open.ensures.cause)
+returns-in_err-mark_open-clause-cause g c = cause_passed (g.D.Tape.tape c.args.disk.now) (g.D.Tape.tape c.mark_open.new.disk) (stop_of_desc c.in_err-mark_open.field-0.0) c.from_residual.result c.from_residual.ensures.1 (cause_by_desc never tt (g.D.Tape.tape c.args.disk.now) (g.D.Tape.tape c.mark_open.new.disk) c.in_err-mark_open.field-0.0 c.in_err-mark_open.ensures.cause)
 
 pub returns-in_err-mark_open-clause-alone : goal.returns-in_err-mark_open-clause-alone
 returns-in_err-mark_open-clause-alone g c = c.in_err-mark_open.ensures.alone

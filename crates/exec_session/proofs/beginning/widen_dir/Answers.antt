@@ -34,7 +34,7 @@ pub returns-clause-unrefused : goal.returns-clause-unrefused
 returns-clause-unrefused g c = rw c.entered.ensures (entered_unrefused c.args.dir.now c.widen-widened.result)
 
 pub returns-clause-cause : goal.returns-clause-cause
-returns-clause-cause g c = rw c.entered.ensures (entered_cause never never never (g.D.Tape.tape c.args.disk.now) (g.D.Tape.tape c.widen-widened.new.disk) c.args.dir.now c.widen-widened.result c.widen-widened.ensures.cause)
+returns-clause-cause g c = rw c.entered.ensures (entered_cause never never never tt tt tt (g.D.Tape.tape c.args.disk.now) (g.D.Tape.tape c.widen-widened.new.disk) c.args.dir.now c.widen-widened.result c.widen-widened.ensures.cause)
 
 pub returns-clause-works : goal.returns-clause-works
 returns-clause-works g c = works_called c.args.session.now c.widen-widened.new.hints c.widen-widened.new.tally c.widen-widened.ensures.sized c.widen-widened.ensures.refused

@@ -61,7 +61,7 @@ pub returns-clause-unrefused : goal.returns-clause-unrefused
 returns-clause-unrefused g c = c.widen_if-2.ensures.unrefused
 
 pub returns-clause-cause : goal.returns-clause-cause
-returns-clause-cause g c = cause_sooner (g.D.Tape.tape c.args.disk.now) (g.D.Tape.tape c.widen_if.new.disk) (g.D.Tape.tape c.widen_if-2.new.disk) c.widen_if-2.result c.widen_if.ensures.alone.grown c.widen_if-2.ensures.cause
+returns-clause-cause g c = cause_sooner (g.D.Tape.tape c.args.disk.now) (g.D.Tape.tape c.widen_if.new.disk) (g.D.Tape.tape c.widen_if-2.new.disk) c.widen_if-2.result c.in_ok-widen_if.ensures.cause c.widen_if-2.ensures.cause
 
 pub returns-clause-works : goal.returns-clause-works
 returns-clause-works g c = works_twice c.widen_if.ensures.works c.widen_if-2.ensures.works

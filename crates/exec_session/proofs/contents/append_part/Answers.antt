@@ -1,4 +1,4 @@
-use Rattle.std.proofs.Common.{◌≡◌, ◌≤◌, ◌+◌, ◌-◌, ◌++◌, ◌∙◌, arith, drop, length, rules, sym, take, [], ℕ}
+use Rattle.std.proofs.Common.{◌≡◌, ◌≤◌, ◌+◌, ◌-◌, ◌++◌, ◌∙◌, arith, drop, length, rules, sym, take, [], ℕ, refl}
 use Rattle.std.specs.Prelude.{vec_len}
 use borrow.Rule.Slice.PartMut.{post_of}
 use Rattle.pack_model.specs.reading.Files.{file_bytes}
@@ -37,7 +37,7 @@ pub returns-in_err-resize-clause-misled : goal.returns-in_err-resize-clause-misl
 returns-in_err-resize-clause-misled g c = λ told from. hint_of_stop (Unit {0}) (MisledBy (pack (g.D.Tape.tape c.args.disk.now)) [] c.args.file.now.fid) (MisledBy (pack (g.D.Tape.tape c.args.disk.now)) [] c.args.file.now.fid) Memory c.from_residual.result c.from_residual.ensures.1 (λ place at wanted found h. h) tt
 
 pub returns-in_err-resize-clause-cause : goal.returns-in_err-resize-clause-cause
-returns-in_err-resize-clause-cause g c = cause_passed (g.D.Tape.tape c.args.disk.now) (g.D.Tape.tape c.args.disk.now) Memory c.from_residual.result c.from_residual.ensures.1 tt
+returns-in_err-resize-clause-cause g c = cause_passed (g.D.Tape.tape c.args.disk.now) (g.D.Tape.tape c.args.disk.now) Memory c.from_residual.result c.from_residual.ensures.1 refl
 
 pub returns-in_err-resize-clause-looks : goal.returns-in_err-resize-clause-looks
 returns-in_err-resize-clause-looks g c = looks_about_none 65588 (g.D.Tape.tape c.args.disk.now) c.args.session.now
@@ -125,7 +125,7 @@ pub returns-clause-misled : goal.returns-clause-misled
 returns-clause-misled g c = λ told from. tt
 
 pub returns-clause-cause : goal.returns-clause-cause
-returns-clause-cause g c = tt
+returns-clause-cause g c = c.in_ok-count.ensures.cause
 
 pub returns-clause-looks : goal.returns-clause-looks
 returns-clause-looks g c = hints_looked c.args.session.now c.read_part.new.hints c.in_ok-count.ensures.looks c.in_ok-count.ensures.table c.in_ok-count.ensures.refused c.in_ok-count.ensures.handy

@@ -1,4 +1,4 @@
-use Rattle.std.proofs.Common.{◌≡◌, ◌+◌, ◌*◌, arith, refl, subst, sym, [], ℕ, ◌≤◌}
+use Rattle.std.proofs.Common.{◌≡◌, ◌+◌, ◌*◌, arith, refl, subst, sym, [], ℕ, ◌≤◌, ◌∙◌}
 use Rattle.disk_records.proofs.Looking.{looks_pack}
 use Rattle.disk_records.specs.Tapes.{pack}
 use Rattle.pack_model.specs.reading.Files.{file_bytes}
@@ -59,6 +59,7 @@ loop-k-preserved g c =
     record {
       sized = omega (arith, many.1, sized, whole);
       looks = looks_about_twice ((c.loop-k.k + 1) * 65588) (omega arith) about c.append_part.ensures.looks;
+      unfailed = c.in_ok-count.ensures.cause ∙ c.loop-k.invariant.unfailed;
       read = λ told w.
           let same = looks_pack about.looks told in
           let next = c.in_ok-count.ensures.read told (subst Whole (sym same) w) in
@@ -83,7 +84,7 @@ pub returns-in_err-count-clause-quick : goal.returns-in_err-count-clause-quick
 returns-in_err-count-clause-quick g c = λ told quick. ok_of_error _ _ c.from_residual.result c.from_residual.ensures.1
 
 pub returns-in_err-count-clause-cause : goal.returns-in_err-count-clause-cause
-returns-in_err-count-clause-cause g c = cause_after (g.D.Tape.tape c.args.disk.now) (g.D.Tape.tape c.loop-k.disk) (g.D.Tape.tape c.append_part.new.disk) c.in_err-count.field-0.0 c.from_residual.result c.from_residual.ensures.1 c.loop-k.invariant.looks.looks.alone.grown c.in_err-count.ensures.cause
+returns-in_err-count-clause-cause g c = cause_after (g.D.Tape.tape c.args.disk.now) (g.D.Tape.tape c.loop-k.disk) (g.D.Tape.tape c.append_part.new.disk) c.in_err-count.field-0.0 c.from_residual.result c.from_residual.ensures.1 c.loop-k.invariant.unfailed c.in_err-count.ensures.cause
 
 pub returns-in_err-count-clause-unrefused : goal.returns-in_err-count-clause-unrefused
 returns-in_err-count-clause-unrefused g c = λ told sound.
@@ -112,7 +113,7 @@ pub returns-then-count-lt-PART-clause-misled : goal.returns-then-count-lt-PART-c
 returns-then-count-lt-PART-clause-misled g c = λ told sound from. tt
 
 pub returns-then-count-lt-PART-clause-cause : goal.returns-then-count-lt-PART-clause-cause
-returns-then-count-lt-PART-clause-cause g c = tt
+returns-then-count-lt-PART-clause-cause g c = c.in_ok-count.ensures.cause ∙ c.loop-k.invariant.unfailed
 
 pub returns-clause-most : goal.returns-clause-most
 returns-clause-most g c = let sized = c.loop-k.invariant.sized in omega (arith, sized)
@@ -124,7 +125,7 @@ pub returns-clause-misled : goal.returns-clause-misled
 returns-clause-misled g c = λ told sound from. tt
 
 pub returns-clause-cause : goal.returns-clause-cause
-returns-clause-cause g c = tt
+returns-clause-cause g c = c.loop-k.invariant.unfailed
 
 pub returns-clause-looks : goal.returns-clause-looks
 returns-clause-looks g c = looks_about_within (8192 * 65588) (omega arith) c.loop-k.invariant.looks

@@ -1,4 +1,5 @@
 use Rattle.std.proofs.Common.{◌≡◌, ◌*◌, IsTrue, length}
+use Rattle.disk_records.specs.Causes.{Unfailed}
 use Rattle.disk_records.specs.Tapes.{pack}
 use Rattle.pack_model.specs.reading.Files.{file_bytes}
 use Rattle.pack_model.specs.reading.Sights.{sights}
@@ -15,6 +16,7 @@ invariant-loop-k g l =
     record {
       sized : length l.bytes.items ≡ l.k * 4096;
       looks : LooksAbout g.D.Tape.told (l.k * 65588) old now l.fn.session l.session;
+      unfailed : Unfailed old now;
       read : IsTrue g.D.Tape.told → Whole (pack old) → HasParts (file_bytes (sights (pack old)) l.file.fid) l.k l.bytes.items;
       few : IsTrue g.D.Tape.told → Quick (pack old) l.file.fid l.fn.session.hints.cache → FewForParts g.D.Tape.told l.file.fid l.k old now l.fn.session.hints.cache l.session.hints.cache;
     }

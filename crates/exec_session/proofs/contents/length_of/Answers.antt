@@ -53,7 +53,7 @@ pub returns-clause-misled : goal.returns-clause-misled
 returns-clause-misled g c = λ told sound from. tt
 
 pub returns-clause-cause : goal.returns-clause-cause
-returns-clause-cause g c = tt
+returns-clause-cause g c = c.in_ok-length.ensures.cause
 
 pub returns-clause-want : goal.returns-clause-want
 returns-clause-want g c = λ told is. cc

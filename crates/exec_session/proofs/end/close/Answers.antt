@@ -68,7 +68,7 @@ pub returns-then-session-clause-left : goal.returns-then-session-clause-left
 returns-then-session-clause-left g c = tt
 
 pub returns-then-session-clause-cause : goal.returns-then-session-clause-cause
-returns-then-session-clause-cause g c = tt
+returns-then-session-clause-cause g c = refl
 
 pub returns-then-session-clause-alone : goal.returns-then-session-clause-alone
 returns-then-session-clause-alone g c = alone_here (g.D.Tape.tape c.args.disk.now)
@@ -100,7 +100,7 @@ returns-in_err-close_pack-clause-left g c =
     (ap (λ d. record s { descriptor = d }) c.in_err-close_pack.ensures.left)
 
 pub returns-in_err-close_pack-clause-cause : goal.returns-in_err-close_pack-clause-cause
-returns-in_err-close_pack-clause-cause g c = cause_passed (g.D.Tape.tape c.args.disk.now) (g.D.Tape.tape c.close_pack.new.disk) (stop_of_desc c.in_err-close_pack.field-0.0) c.from_residual.result c.from_residual.ensures.1 (cause_by_desc never (g.D.Tape.tape c.args.disk.now) (g.D.Tape.tape c.close_pack.new.disk) c.in_err-close_pack.field-0.0 c.in_err-close_pack.ensures.cause)
+returns-in_err-close_pack-clause-cause g c = cause_passed (g.D.Tape.tape c.args.disk.now) (g.D.Tape.tape c.close_pack.new.disk) (stop_of_desc c.in_err-close_pack.field-0.0) c.from_residual.result c.from_residual.ensures.1 (cause_by_desc never tt (g.D.Tape.tape c.args.disk.now) (g.D.Tape.tape c.close_pack.new.disk) c.in_err-close_pack.field-0.0 c.in_err-close_pack.ensures.cause)
 
 pub returns-in_err-close_pack-clause-alone : goal.returns-in_err-close_pack-clause-alone
 returns-in_err-close_pack-clause-alone g c = c.in_err-close_pack.ensures.alone
@@ -125,7 +125,7 @@ pub returns-clause-left : goal.returns-clause-left
 returns-clause-left g c = tt
 
 pub returns-clause-cause : goal.returns-clause-cause
-returns-clause-cause g c = tt
+returns-clause-cause g c = c.in_ok-close_pack.ensures.cause
 
 pub returns-clause-alone : goal.returns-clause-alone
 returns-clause-alone g c = c.in_ok-close_pack.ensures.alone

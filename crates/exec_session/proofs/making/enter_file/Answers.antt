@@ -35,7 +35,7 @@ pub returns-clause-unrefused : goal.returns-clause-unrefused
 returns-clause-unrefused g c = rw c.entered.ensures (entered_unrefused c.args.entry.now.dir c.enter-answer.result)
 
 pub returns-clause-cause : goal.returns-clause-cause
-returns-clause-cause g c = rw c.entered.ensures (entered_cause never other other (g.D.Tape.tape c.args.disk.now) (g.D.Tape.tape c.enter-answer.new.disk) c.args.entry.now.dir c.enter-answer.result c.enter-answer.ensures.cause)
+returns-clause-cause g c = rw c.entered.ensures (entered_cause never other other tt tt tt (g.D.Tape.tape c.args.disk.now) (g.D.Tape.tape c.enter-answer.new.disk) c.args.entry.now.dir c.enter-answer.result c.enter-answer.ensures.cause)
 
 pub returns-clause-works : goal.returns-clause-works
 returns-clause-works g c = works_called c.args.session.now c.enter-answer.new.hints c.enter-answer.new.tally (ap length c.enter-answer.ensures.table) c.enter-answer.ensures.refused

@@ -165,7 +165,7 @@ pub returns-in_err-file-clause-unrefused : goal.returns-in_err-file-clause-unref
 returns-in_err-file-clause-unrefused g c = refused_of_stop FileRef (λ r. ⊥) (λ r. ⊥) c.in_err-file.field-0.0 c.from_residual-in_err-file.result c.from_residual-in_err-file.ensures.1 (λ r h. h) c.in_err-file.ensures.unrefused
 
 pub returns-in_err-file-clause-cause : goal.returns-in_err-file-clause-cause
-returns-in_err-file-clause-cause g c = cause_after (g.D.Tape.tape c.args.disk.now) (g.D.Tape.tape c.widen_first.new.disk) (g.D.Tape.tape c.make_next.new.disk) c.in_err-file.field-0.0 c.from_residual-in_err-file.result c.from_residual-in_err-file.ensures.1 c.widen_first.ensures.alone.grown c.in_err-file.ensures.cause
+returns-in_err-file-clause-cause g c = cause_after (g.D.Tape.tape c.args.disk.now) (g.D.Tape.tape c.widen_first.new.disk) (g.D.Tape.tape c.make_next.new.disk) c.in_err-file.field-0.0 c.from_residual-in_err-file.result c.from_residual-in_err-file.ensures.1 c.in_ok-widen_first.ensures.cause c.in_err-file.ensures.cause
 
 pub returns-in_err-file-clause-works : goal.returns-in_err-file-clause-works
 returns-in_err-file-clause-works g c = works_twice c.widen_first.ensures.works c.make_next.ensures.works
@@ -180,7 +180,7 @@ pub returns-in_err-enter_file-clause-unrefused : goal.returns-in_err-enter_file-
 returns-in_err-enter_file-clause-unrefused g c = refused_of_stop (Unit {0}) (λ r. ⊥) (λ r. ⊥) c.in_err-enter_file.field-0.0 c.from_residual-in_err-enter_file.result c.from_residual-in_err-enter_file.ensures.1 (λ r h. h) c.in_err-enter_file.ensures.unrefused
 
 pub returns-in_err-enter_file-clause-cause : goal.returns-in_err-enter_file-clause-cause
-returns-in_err-enter_file-clause-cause g c = cause_after (g.D.Tape.tape c.args.disk.now) (g.D.Tape.tape c.make_next.new.disk) (g.D.Tape.tape c.enter_file.new.disk) c.in_err-enter_file.field-0.0 c.from_residual-in_err-enter_file.result c.from_residual-in_err-enter_file.ensures.1 (alone_twice c.widen_first.ensures.alone c.make_next.ensures.alone).grown c.in_err-enter_file.ensures.cause
+returns-in_err-enter_file-clause-cause g c = cause_after (g.D.Tape.tape c.args.disk.now) (g.D.Tape.tape c.make_next.new.disk) (g.D.Tape.tape c.enter_file.new.disk) c.in_err-enter_file.field-0.0 c.from_residual-in_err-enter_file.result c.from_residual-in_err-enter_file.ensures.1 (c.in_ok-file.ensures.cause ∙ c.in_ok-widen_first.ensures.cause) c.in_err-enter_file.ensures.cause
 
 pub returns-in_err-enter_file-clause-works : goal.returns-in_err-enter_file-clause-works
 returns-in_err-enter_file-clause-works g c = works_twice (works_twice c.widen_first.ensures.works c.make_next.ensures.works) c.enter_file.ensures.works
@@ -190,3 +190,6 @@ returns-in_err-widen_first-clause-alone g c = c.widen_first.ensures.alone
 
 pub returns-clause-works : goal.returns-clause-works
 returns-clause-works g c = works_twice (works_twice c.widen_first.ensures.works c.make_next.ensures.works) c.enter_file.ensures.works
+
+pub returns-clause-cause : goal.returns-clause-cause
+returns-clause-cause g c = c.in_ok-enter_file.ensures.cause ∙ c.in_ok-file.ensures.cause ∙ c.in_ok-widen_first.ensures.cause

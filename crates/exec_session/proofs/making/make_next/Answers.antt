@@ -95,7 +95,7 @@ pub returns-in_err-serial-clause-placed : goal.returns-in_err-serial-clause-plac
 returns-in_err-serial-clause-placed g c = λ told may. ok_of_error _ _ c.from_residual.result c.from_residual.ensures.1
 
 pub returns-in_err-serial-clause-cause : goal.returns-in_err-serial-clause-cause
-returns-in_err-serial-clause-cause g c = cause_passed (g.D.Tape.tape c.args.disk.now) (g.D.Tape.tape c.next_serial.new.disk) (stop_of_desc c.in_err-serial.field-0.0) c.from_residual.result c.from_residual.ensures.1 (cause_by_desc other (g.D.Tape.tape c.args.disk.now) (g.D.Tape.tape c.next_serial.new.disk) c.in_err-serial.field-0.0 c.in_err-serial.ensures.cause)
+returns-in_err-serial-clause-cause g c = cause_passed (g.D.Tape.tape c.args.disk.now) (g.D.Tape.tape c.next_serial.new.disk) (stop_of_desc c.in_err-serial.field-0.0) c.from_residual.result c.from_residual.ensures.1 (cause_by_desc other tt (g.D.Tape.tape c.args.disk.now) (g.D.Tape.tape c.next_serial.new.disk) c.in_err-serial.field-0.0 c.in_err-serial.ensures.cause)
 
 pub returns-in_err-serial-clause-alone : goal.returns-in_err-serial-clause-alone
 returns-in_err-serial-clause-alone g c = c.in_err-serial.ensures.alone
@@ -115,5 +115,11 @@ pub returns-in_err-written-clause-cause : goal.returns-in_err-written-clause-cau
 returns-in_err-written-clause-cause g c =
     let b = g.D.Tape.tape c.next_serial.new.disk in
     let d = g.D.Tape.tape c.make-made.new.disk in
-    cause_after (g.D.Tape.tape c.args.disk.now) b d c.in_err-written.field-0.0 c.from_residual-in_err-written.result c.from_residual-in_err-written.ensures.1 c.next_serial.ensures.alone.grown
+    cause_after (g.D.Tape.tape c.args.disk.now) b d c.in_err-written.field-0.0 c.from_residual-in_err-written.result c.from_residual-in_err-written.ensures.1 c.in_ok-serial.ensures.cause
     (subst (λ (r : Result (Unit {0}) Stop). HasCause cause_of_stop b d r) (sym c.in_err-written.ensures) (written_cause b d c.new_file-file.result c.make-made.result c.make-made.ensures.cause))
+
+pub returns-clause-cause : goal.returns-clause-cause
+returns-clause-cause g c =
+    let b = g.D.Tape.tape c.next_serial.new.disk in
+    let d = g.D.Tape.tape c.make-made.new.disk in
+    subst (λ (r : Result (Unit {0}) Stop). HasCause cause_of_stop b d r) (sym c.in_ok-written.ensures) (written_cause b d c.new_file-file.result c.make-made.result c.make-made.ensures.cause) ∙ c.in_ok-serial.ensures.cause

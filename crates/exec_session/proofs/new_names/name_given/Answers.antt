@@ -137,7 +137,7 @@ pub returns-in_err-refuse_entry-in-Exact-clause-given : goal.returns-in_err-refu
 returns-in_err-refuse_entry-in-Exact-clause-given g c = λ told stands. ok_of_error _ _ c.from_residual-in_err-refuse_entry-in-Exact.result c.from_residual-in_err-refuse_entry-in-Exact.ensures.1
 
 pub returns-in_err-refuse_entry-in-Exact-clause-cause : goal.returns-in_err-refuse_entry-in-Exact-clause-cause
-returns-in_err-refuse_entry-in-Exact-clause-cause g c = cause_after (g.D.Tape.tape c.args.disk.now) (g.D.Tape.tape c.greatest.new.disk) (g.D.Tape.tape c.refuse_entry.new.disk) c.in_err-refuse_entry-in-Exact.field-0.0 c.from_residual-in_err-refuse_entry-in-Exact.result c.from_residual-in_err-refuse_entry-in-Exact.ensures.1 c.in_ok-found.ensures.looks.alone.grown c.in_err-refuse_entry-in-Exact.ensures.cause
+returns-in_err-refuse_entry-in-Exact-clause-cause g c = cause_after (g.D.Tape.tape c.args.disk.now) (g.D.Tape.tape c.greatest.new.disk) (g.D.Tape.tape c.refuse_entry.new.disk) c.in_err-refuse_entry-in-Exact.field-0.0 c.from_residual-in_err-refuse_entry-in-Exact.result c.from_residual-in_err-refuse_entry-in-Exact.ensures.1 c.in_ok-found.ensures.cause c.in_err-refuse_entry-in-Exact.ensures.cause
 
 pub returns-in_err-refuse_entry-in-Exact-clause-want : goal.returns-in_err-refuse_entry-in-Exact-clause-want
 returns-in_err-refuse_entry-in-Exact-clause-want g c = λ told. not_wanted (Unit {0}) c.in_err-refuse_entry-in-Exact.field-0.0 c.from_residual-in_err-refuse_entry-in-Exact.result c.from_residual-in_err-refuse_entry-in-Exact.ensures.1 (c.in_err-refuse_entry-in-Exact.ensures.want told)
@@ -152,7 +152,7 @@ pub returns-then-found-clause-misled : goal.returns-then-found-clause-misled
 returns-then-found-clause-misled g c = λ told stands. rw c.refused.ensures tt
 
 pub returns-then-found-clause-cause : goal.returns-then-found-clause-cause
-returns-then-found-clause-cause g c = rw c.refused.ensures tt
+returns-then-found-clause-cause g c = rw c.refused.ensures c.in_ok-found.ensures.cause
 
 pub returns-then-found-clause-want : goal.returns-then-found-clause-want
 returns-then-found-clause-want g c = λ told. refused_unwanted c.refused.result refusal.NameTaken c.refused.ensures
@@ -167,7 +167,7 @@ pub returns-in_ok-refuse_entry-in-Exact-clause-misled : goal.returns-in_ok-refus
 returns-in_ok-refuse_entry-in-Exact-clause-misled g c = λ told stands. tt
 
 pub returns-in_ok-refuse_entry-in-Exact-clause-cause : goal.returns-in_ok-refuse_entry-in-Exact-clause-cause
-returns-in_ok-refuse_entry-in-Exact-clause-cause g c = tt
+returns-in_ok-refuse_entry-in-Exact-clause-cause g c = c.in_ok-refuse_entry-in-Exact.ensures.cause ∙ c.in_ok-found.ensures.cause
 
 pub returns-in_ok-refuse_entry-in-Exact-clause-want : goal.returns-in_ok-refuse_entry-in-Exact-clause-want
 returns-in_ok-refuse_entry-in-Exact-clause-want g c = λ told is. cc
@@ -179,7 +179,7 @@ pub returns-in-Newest-clause-misled : goal.returns-in-Newest-clause-misled
 returns-in-Newest-clause-misled g c = λ told stands. rw c.next_version.ensures (after_hint c.in-Newest.base c.in_ok-found.found.version (MisledBy (pack (g.D.Tape.tape c.args.disk.now)) [] c.args.dir.now.fid))
 
 pub returns-in-Newest-clause-cause : goal.returns-in-Newest-clause-cause
-returns-in-Newest-clause-cause g c = rw c.next_version.ensures (after_cause c.in-Newest.base c.in_ok-found.found.version (g.D.Tape.tape c.args.disk.now) (g.D.Tape.tape c.greatest.new.disk))
+returns-in-Newest-clause-cause g c = rw c.next_version.ensures (after_cause c.in-Newest.base c.in_ok-found.found.version (g.D.Tape.tape c.args.disk.now) (g.D.Tape.tape c.greatest.new.disk) c.in_ok-found.ensures.cause)
 
 pub returns-in-Newest-clause-want : goal.returns-in-Newest-clause-want
 returns-in-Newest-clause-want g c = λ told is. after_unwanted c.in-Newest.base c.in_ok-found.found.version (sym c.next_version.ensures ∙ is)

@@ -1,4 +1,4 @@
-use Rattle.std.proofs.Common.{Err, arith, List, [], ap, refl, ℕ, ◌≡◌}
+use Rattle.std.proofs.Common.{Err, arith, List, [], ap, refl, ℕ, ◌≡◌, subst}
 use Rattle.page_seeking.specs.declared.refs.FileRef.{FileRef}
 use Rattle.disk_records.specs.Tapes.{pack}
 use Rattle.page_seeking.specs.Refs.{MisledBy}
@@ -7,9 +7,11 @@ use Rattle.exec_session.proofs.Looking.{hints_looked, looks_about_within}
 use Rattle.exec_session.proofs.Causing.{cause_by_dir, cause_passed, not_wanted_by_dir, refused_unwanted}
 use Rattle.exec_session.proofs.Stopping.{hint_of_dir, refused_as}
 use Rattle.exec_session.proofs.NewNaming.{not_absent}
-use Rattle.disk_records.specs.Causes.{never, other}
+use Rattle.disk_records.specs.Causes.{never, other, IsCause}
 use Rattle.exec_session.specs.Stops.{stop_of_dir}
 use Rattle.exec_words.specs.declared.reply.Refusal.TheVariants.{NameTaken}
+use Rattle.directory.specs.Errors.{cause_of}
+use Rattle.directory.specs.declared.errors.DirError.{DirError}
 use Rattle.exec_session.proofs.new_names.refuse_entry.Goals as goal
 
 pub returns-in-Ok-clause-absent : goal.returns-in-Ok-clause-absent
@@ -22,7 +24,7 @@ pub returns-in-Ok-clause-misled : goal.returns-in-Ok-clause-misled
 returns-in-Ok-clause-misled g c = λ told there. rw c.refused.ensures tt
 
 pub returns-in-Ok-clause-cause : goal.returns-in-Ok-clause-cause
-returns-in-Ok-clause-cause g c = rw c.refused.ensures tt
+returns-in-Ok-clause-cause g c = rw c.refused.ensures c.in-Ok.ensures.cause
 
 pub returns-in-Ok-clause-want : goal.returns-in-Ok-clause-want
 returns-in-Ok-clause-want g c = λ told. refused_unwanted c.refused.result NameTaken c.refused.ensures
@@ -40,7 +42,7 @@ pub returns-in-Err-NoSuchName-clause-misled : goal.returns-in-Err-NoSuchName-cla
 returns-in-Err-NoSuchName-clause-misled g c = λ told there. tt
 
 pub returns-in-Err-NoSuchName-clause-cause : goal.returns-in-Err-NoSuchName-clause-cause
-returns-in-Err-NoSuchName-clause-cause g c = tt
+returns-in-Err-NoSuchName-clause-cause g c = subst (λ (e : DirError). IsCause (g.D.Tape.tape c.args.disk.now) (g.D.Tape.tape c.lookup.new.disk) (cause_of other never never e)) c.in-Err-NoSuchName.field-0-is c.in-Err-NoSuchName.ensures.cause
 
 pub returns-in-Err-NoSuchName-clause-want : goal.returns-in-Err-NoSuchName-clause-want
 returns-in-Err-NoSuchName-clause-want g c = λ told is. cc
@@ -55,7 +57,7 @@ pub returns-in-Err-clause-misled : goal.returns-in-Err-clause-misled
 returns-in-Err-clause-misled g c = λ told there. hint_of_dir (FileRef × List ℕ) {U = Unit {0}} (MisledBy (pack (g.D.Tape.tape c.args.disk.now)) [] c.args.dir.now.fid) (MisledBy (pack (g.D.Tape.tape c.args.disk.now)) [] c.args.dir.now.fid) c.in-Err.error (Err c.from.result) c.from.ensures (λ place at wanted found h. h) (c.in-Err.ensures.misled told there)
 
 pub returns-in-Err-clause-cause : goal.returns-in-Err-clause-cause
-returns-in-Err-clause-cause g c = cause_passed {U = Unit {0}} (g.D.Tape.tape c.args.disk.now) (g.D.Tape.tape c.lookup.new.disk) (stop_of_dir c.in-Err.error) (Err c.from.result) c.from.ensures (cause_by_dir other never never (g.D.Tape.tape c.args.disk.now) (g.D.Tape.tape c.lookup.new.disk) c.in-Err.error c.in-Err.ensures.cause)
+returns-in-Err-clause-cause g c = cause_passed {U = Unit {0}} (g.D.Tape.tape c.args.disk.now) (g.D.Tape.tape c.lookup.new.disk) (stop_of_dir c.in-Err.error) (Err c.from.result) c.from.ensures (cause_by_dir other never never tt tt tt (g.D.Tape.tape c.args.disk.now) (g.D.Tape.tape c.lookup.new.disk) c.in-Err.error c.in-Err.ensures.cause)
 
 pub returns-in-Err-clause-want : goal.returns-in-Err-clause-want
 returns-in-Err-clause-want g c = λ told. not_wanted_by_dir {U = Unit {0}} (FileRef × List ℕ) c.in-Err.error (Err c.from.result) c.from.ensures (c.in-Err.ensures.want told)

@@ -66,7 +66,7 @@ pub returns-then-found-gt0-clause-misled : goal.returns-then-found-gt0-clause-mi
 returns-then-found-gt0-clause-misled g c = λ told stands. rw c.refused.ensures tt
 
 pub returns-then-found-gt0-clause-cause : goal.returns-then-found-gt0-clause-cause
-returns-then-found-gt0-clause-cause g c = rw c.refused.ensures tt
+returns-then-found-gt0-clause-cause g c = rw c.refused.ensures c.in_ok-found.ensures.cause
 
 pub returns-then-found-gt0-clause-want : goal.returns-then-found-gt0-clause-want
 returns-then-found-gt0-clause-want g c = λ told. refused_unwanted c.refused.result refusal.NameTaken c.refused.ensures
@@ -81,7 +81,7 @@ pub returns-clause-misled : goal.returns-clause-misled
 returns-clause-misled g c = λ told stands. tt
 
 pub returns-clause-cause : goal.returns-clause-cause
-returns-clause-cause g c = tt
+returns-clause-cause g c = c.in_ok-found.ensures.cause
 
 pub returns-clause-want : goal.returns-clause-want
 returns-clause-want g c = λ told is. cc

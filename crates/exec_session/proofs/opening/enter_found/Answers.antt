@@ -1,7 +1,8 @@
 use Rattle.std.specs.Prelude.{IfErr}
 use Rattle.std.proofs.Common.{None, ap, arith, length, subst, sym, true, ◌≡◌, ◌∙◌}
 use Rattle.directory.specs.Asked.{DirIsFound}
-use Rattle.disk_descriptor.specs.Opening.{IsOpened, MayBeOpened}
+use Rattle.alto_words.specs.Fid.{disk_descriptor}
+use Rattle.disk_descriptor.specs.Opening.{HasCleanPage, IsOpened, MayBeOpened}
 use Rattle.disk_descriptor.specs.declared.descriptor.Descriptor.{Descriptor}
 use Rattle.disk_records.specs.Packs.{carried}
 use Rattle.disk_records.specs.Tapes.{pack}
@@ -10,7 +11,7 @@ use Rattle.disk_records.proofs.Growing.{alone_twice}
 use Rattle.session_model.specs.Opening.{descriptor_entry, is_descriptor, is_root, unready}
 use Rattle.exec_session.specs.Found.{root_ref}
 use Rattle.exec_session.specs.Opens.{DescriptorRefused, Refuses}
-use Rattle.exec_session.proofs.PackOpening.{cause_in_entering, if_ok_more, ok_of_open_error, open_cause, open_cause_after, opened_ready, passed_on, refused_by_entry, refused_by_root, refused_in_entering}
+use Rattle.exec_session.proofs.PackOpening.{cause_in_entering, if_ok_more, if_ok_of, ok_of_open_error, open_cause, open_cause_after, opened_ready, passed_on, refused_by_entry, refused_by_root, refused_in_entering}
 use Rattle.exec_session.proofs.RootFinding.{root_there}
 use Rattle.exec_session.proofs.opening.enter_found.Goals as goal
 
@@ -45,7 +46,7 @@ pub returns-in_err-entry-clause-opened : goal.returns-in_err-entry-clause-opened
 returns-in_err-entry-clause-opened g c = λ told once. ok_of_open_error _ _ c.from_residual-in_err-entry.result c.from_residual-in_err-entry.ensures.1
 
 pub returns-in_err-entry-clause-cause : goal.returns-in_err-entry-clause-cause
-returns-in_err-entry-clause-cause g c = open_cause_after (g.D.Tape.tape c.args.disk.now) (g.D.Tape.tape c.check_root.new.disk) (g.D.Tape.tape c.find_descriptor.new.disk) c.in_err-entry.field-0.0 c.from_residual-in_err-entry.result c.from_residual-in_err-entry.ensures.1 c.in_ok-check_root.ensures.looks.alone.grown c.in_err-entry.ensures.cause
+returns-in_err-entry-clause-cause g c = open_cause_after (g.D.Tape.tape c.args.disk.now) (g.D.Tape.tape c.check_root.new.disk) (g.D.Tape.tape c.find_descriptor.new.disk) c.in_err-entry.field-0.0 c.from_residual-in_err-entry.result c.from_residual-in_err-entry.ensures.1 c.in_ok-check_root.ensures.cause c.in_err-entry.ensures.cause
 
 pub returns-in_err-entry-clause-looks : goal.returns-in_err-entry-clause-looks
 returns-in_err-entry-clause-looks g c = looks_twice 8596750336 c.in_ok-check_root.ensures.looks c.in_err-entry.ensures.looks (omega arith)
@@ -56,7 +57,28 @@ returns-in_err-entry-clause-shape g c = ok_of_open_error _ _ c.from_residual-in_
 pub returns-in_err-entry-clause-sized : goal.returns-in_err-entry-clause-sized
 returns-in_err-entry-clause-sized g c = ap length c.in_err-entry.ensures.table
 
+pub returns-in_err-check_root-clause-clean : goal.returns-in_err-check_root-clause-clean
+returns-in_err-check_root-clause-clean g c = ok_of_open_error _ _ c.from_residual.result c.from_residual.ensures.1
+
+pub returns-in_err-check_root-clause-clean_page : goal.returns-in_err-check_root-clause-clean_page
+returns-in_err-check_root-clause-clean_page g c = λ told. ok_of_open_error _ _ c.from_residual.result c.from_residual.ensures.1
+
+pub returns-in_err-entry-clause-clean : goal.returns-in_err-entry-clause-clean
+returns-in_err-entry-clause-clean g c = ok_of_open_error _ _ c.from_residual-in_err-entry.result c.from_residual-in_err-entry.ensures.1
+
+pub returns-in_err-entry-clause-clean_page : goal.returns-in_err-entry-clause-clean_page
+returns-in_err-entry-clause-clean_page g c = λ told. ok_of_open_error _ _ c.from_residual-in_err-entry.result c.from_residual-in_err-entry.ensures.1
+
 -- ---- it is entered, or not
+pub returns-clause-clean : goal.returns-clause-clean
+returns-clause-clean g c = c.enter_pack.ensures.clean
+
+pub returns-clause-clean_page : goal.returns-clause-clean_page
+returns-clause-clean_page g c = λ told.
+    let same = looks_pack c.in_ok-entry.ensures.looks told ∙ looks_pack c.in_ok-check_root.ensures.looks told in
+    if_ok_of (λ (d : Descriptor). HasCleanPage (pack (g.D.Tape.tape c.args.disk.now)) disk_descriptor) c.enter_pack.result (c.enter_pack.ensures.clean_page told)
+    (λ d page. subst (λ p. HasCleanPage p disk_descriptor) same (subst (HasCleanPage (pack (g.D.Tape.tape c.find_descriptor.new.disk))) c.in_ok-entry.ensures.fid page))
+
 pub returns-clause-opened : goal.returns-clause-opened
 returns-clause-opened g c = λ told once.
     let p = pack (g.D.Tape.tape c.args.disk.now) in
@@ -96,7 +118,7 @@ pub returns-clause-sized : goal.returns-clause-sized
 returns-clause-sized g c = c.enter_pack.ensures.sized ∙ ap length c.in_ok-entry.ensures.table
 
 pub returns-clause-cause : goal.returns-clause-cause
-returns-clause-cause g c = cause_in_entering (g.D.Tape.tape c.args.disk.now) (g.D.Tape.tape c.find_descriptor.new.disk) (g.D.Tape.tape c.enter_pack.new.disk) c.enter_pack.result (alone_twice c.in_ok-check_root.ensures.looks.alone c.in_ok-entry.ensures.looks.alone).grown c.enter_pack.ensures.cause
+returns-clause-cause g c = cause_in_entering (g.D.Tape.tape c.args.disk.now) (g.D.Tape.tape c.find_descriptor.new.disk) (g.D.Tape.tape c.enter_pack.new.disk) c.enter_pack.result (c.in_ok-entry.ensures.cause ∙ c.in_ok-check_root.ensures.cause) c.enter_pack.ensures.cause
 
 pub returns-clause-looks : goal.returns-clause-looks
 returns-clause-looks g c = looks_twice 8596750336 (looks_twice 4298309581 c.in_ok-check_root.ensures.looks c.in_ok-entry.ensures.looks (omega arith)) c.enter_pack.ensures.looks (omega arith)

@@ -2,6 +2,7 @@ use Rattle.disk_records.specs.Tapes.{pack}
 use Rattle.disk_records.proofs.Looking.{looks_none}
 use Rattle.exec_session.specs.Opens.{Refuses}
 use Rattle.exec_session.proofs.PackOpening.{ok_of_open_error, open_cause, passed_on}
+use Rattle.std.proofs.Common.{refl}
 use Rattle.exec_session.proofs.opening.open_pack.Goals as goal
 
 -- ---- no memory is left for the hints
@@ -15,12 +16,24 @@ pub returns-in-Err-clause-formed : goal.returns-in-Err-clause-formed
 returns-in-Err-clause-formed g c = tt
 
 pub returns-in-Err-clause-cause : goal.returns-in-Err-clause-cause
-returns-in-Err-clause-cause g c = tt
+returns-in-Err-clause-cause g c = refl
 
 pub returns-in-Err-clause-looks : goal.returns-in-Err-clause-looks
 returns-in-Err-clause-looks g c = looks_none 8596750336 (g.D.Tape.tape c.args.disk.now)
 
+pub returns-in-Err-clause-clean : goal.returns-in-Err-clause-clean
+returns-in-Err-clause-clean g c = tt
+
+pub returns-in-Err-clause-clean_page : goal.returns-in-Err-clause-clean_page
+returns-in-Err-clause-clean_page g c = λ told. tt
+
 -- ---- it isn't entered
+pub returns-in_err-descriptor-clause-clean : goal.returns-in_err-descriptor-clause-clean
+returns-in_err-descriptor-clause-clean g c = ok_of_open_error _ _ c.from_residual.result c.from_residual.ensures.1
+
+pub returns-in_err-descriptor-clause-clean_page : goal.returns-in_err-descriptor-clause-clean_page
+returns-in_err-descriptor-clause-clean_page g c = λ told. ok_of_open_error _ _ c.from_residual.result c.from_residual.ensures.1
+
 pub returns-in_err-descriptor-clause-opened : goal.returns-in_err-descriptor-clause-opened
 returns-in_err-descriptor-clause-opened g c = λ told once. ok_of_open_error _ _ c.from_residual.result c.from_residual.ensures.1
 
@@ -37,6 +50,12 @@ pub returns-in_err-descriptor-clause-looks : goal.returns-in_err-descriptor-clau
 returns-in_err-descriptor-clause-looks g c = c.in_err-descriptor.ensures.looks
 
 -- ---- it is
+pub returns-clause-clean : goal.returns-clause-clean
+returns-clause-clean g c = c.in_ok-descriptor.ensures.clean
+
+pub returns-clause-clean_page : goal.returns-clause-clean_page
+returns-clause-clean_page g c = c.in_ok-descriptor.ensures.clean_page
+
 pub returns-clause-opened : goal.returns-clause-opened
 returns-clause-opened g c = c.in_ok-descriptor.ensures.opened
 
@@ -44,7 +63,7 @@ pub returns-clause-refused : goal.returns-clause-refused
 returns-clause-refused g c = λ told once. tt
 
 pub returns-clause-cause : goal.returns-clause-cause
-returns-clause-cause g c = tt
+returns-clause-cause g c = c.in_ok-descriptor.ensures.cause
 
 pub returns-clause-looks : goal.returns-clause-looks
 returns-clause-looks g c = c.in_ok-descriptor.ensures.looks

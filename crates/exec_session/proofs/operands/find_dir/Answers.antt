@@ -53,7 +53,7 @@ pub returns-in_err-file-clause-quick : goal.returns-in_err-file-clause-quick
 returns-in_err-file-clause-quick g c = λ told handy. ok_of_error _ _ c.from_residual.result c.from_residual.ensures.1
 
 pub returns-in_err-file-clause-cause : goal.returns-in_err-file-clause-cause
-returns-in_err-file-clause-cause g c = cause_passed (g.D.Tape.tape c.args.disk.now) (g.D.Tape.tape c.lookup.new.disk) (stop_of_dir c.in_err-file.field-0.0) c.from_residual.result c.from_residual.ensures.1 (cause_by_dir other never never (g.D.Tape.tape c.args.disk.now) (g.D.Tape.tape c.lookup.new.disk) c.in_err-file.field-0.0 c.in_err-file.ensures.cause)
+returns-in_err-file-clause-cause g c = cause_passed (g.D.Tape.tape c.args.disk.now) (g.D.Tape.tape c.lookup.new.disk) (stop_of_dir c.in_err-file.field-0.0) c.from_residual.result c.from_residual.ensures.1 (cause_by_dir other never never tt tt tt (g.D.Tape.tape c.args.disk.now) (g.D.Tape.tape c.lookup.new.disk) c.in_err-file.field-0.0 c.in_err-file.ensures.cause)
 
 pub returns-in_err-file-clause-want : goal.returns-in_err-file-clause-want
 returns-in_err-file-clause-want g c = λ told. not_wanted_by_dir (FileRef × List ℕ) c.in_err-file.field-0.0 c.from_residual.result c.from_residual.ensures.1 (c.in_err-file.ensures.want told)
@@ -68,7 +68,7 @@ pub returns-clause-misled : goal.returns-clause-misled
 returns-clause-misled g c = λ told sound. tt
 
 pub returns-clause-cause : goal.returns-clause-cause
-returns-clause-cause g c = tt
+returns-clause-cause g c = c.in_ok-file.ensures.cause
 
 pub returns-clause-want : goal.returns-clause-want
 returns-clause-want g c = λ told is. cc
@@ -84,7 +84,7 @@ pub returns-in_default-clause-misled : goal.returns-in_default-clause-misled
 returns-in_default-clause-misled g c = λ told sound. tt
 
 pub returns-in_default-clause-cause : goal.returns-in_default-clause-cause
-returns-in_default-clause-cause g c = tt
+returns-in_default-clause-cause g c = refl
 
 pub returns-in_default-clause-want : goal.returns-in_default-clause-want
 returns-in_default-clause-want g c = λ told is. cc

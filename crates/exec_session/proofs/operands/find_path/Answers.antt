@@ -154,8 +154,8 @@ returns-in_err-file-clause-quick g c = λ told handy. ok_of_error _ _ c.from_res
 
 pub returns-in_err-file-clause-cause : goal.returns-in_err-file-clause-cause
 returns-in_err-file-clause-cause g c =
-    cause_after (g.D.Tape.tape c.args.disk.now) (g.D.Tape.tape c.find_dir.new.disk) (g.D.Tape.tape c.lookup.new.disk) (stop_of_dir c.in_err-file.field-0.0) c.from_residual-in_err-file.result c.from_residual-in_err-file.ensures.1 c.in_ok-dir.ensures.looks.looks.alone.grown
-    (cause_by_dir other never never (g.D.Tape.tape c.find_dir.new.disk) (g.D.Tape.tape c.lookup.new.disk) c.in_err-file.field-0.0 c.in_err-file.ensures.cause)
+    cause_after (g.D.Tape.tape c.args.disk.now) (g.D.Tape.tape c.find_dir.new.disk) (g.D.Tape.tape c.lookup.new.disk) (stop_of_dir c.in_err-file.field-0.0) c.from_residual-in_err-file.result c.from_residual-in_err-file.ensures.1 c.in_ok-dir.ensures.cause
+    (cause_by_dir other never never tt tt tt (g.D.Tape.tape c.find_dir.new.disk) (g.D.Tape.tape c.lookup.new.disk) c.in_err-file.field-0.0 c.in_err-file.ensures.cause)
 
 pub returns-in_err-file-clause-want : goal.returns-in_err-file-clause-want
 returns-in_err-file-clause-want g c = λ told. not_wanted_by_dir (FileRef × List ℕ) c.in_err-file.field-0.0 c.from_residual-in_err-file.result c.from_residual-in_err-file.ensures.1 (c.in_err-file.ensures.want told)
@@ -170,7 +170,7 @@ pub returns-then-not-is_directory-clause-misled : goal.returns-then-not-is_direc
 returns-then-not-is_directory-clause-misled g c = λ told sound. rw c.refused.ensures tt
 
 pub returns-then-not-is_directory-clause-cause : goal.returns-then-not-is_directory-clause-cause
-returns-then-not-is_directory-clause-cause g c = rw c.refused.ensures tt
+returns-then-not-is_directory-clause-cause g c = rw c.refused.ensures c.in_ok-dir.ensures.cause
 
 pub returns-then-not-is_directory-clause-want : goal.returns-then-not-is_directory-clause-want
 returns-then-not-is_directory-clause-want g c = λ told. refused_unwanted c.refused.result refusal.NoSuchName c.refused.ensures
@@ -188,7 +188,7 @@ pub returns-clause-misled : goal.returns-clause-misled
 returns-clause-misled g c = λ told sound. tt
 
 pub returns-clause-cause : goal.returns-clause-cause
-returns-clause-cause g c = tt
+returns-clause-cause g c = c.in_ok-file.ensures.cause ∙ c.in_ok-dir.ensures.cause
 
 pub returns-clause-want : goal.returns-clause-want
 returns-clause-want g c = λ told is. cc

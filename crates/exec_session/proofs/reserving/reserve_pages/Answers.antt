@@ -83,7 +83,7 @@ pub returns-clause-sized : goal.returns-clause-sized
 returns-clause-sized g c = c.reserve.ensures.sized
 
 pub returns-clause-cause : goal.returns-clause-cause
-returns-clause-cause g c = tt
+returns-clause-cause g c = c.in_ok-reserve.ensures.cause
 
 pub returns-clause-looks : goal.returns-clause-looks
 returns-clause-looks g c = c.reserve.ensures.looks

@@ -1,4 +1,5 @@
 use Rattle.exec_session.proofs.Looking.{looks_about_none}
+use Rattle.std.proofs.Common.{refl}
 use Rattle.exec_session.proofs.rooms.lacks_own_room.Goals as goal
 
 -- ---- SysDir
@@ -9,7 +10,7 @@ pub returns-then-eq-clause-misled : goal.returns-then-eq-clause-misled
 returns-then-eq-clause-misled g c = λ told stands. tt
 
 pub returns-then-eq-clause-cause : goal.returns-then-eq-clause-cause
-returns-then-eq-clause-cause g c = tt
+returns-then-eq-clause-cause g c = refl
 
 pub returns-then-eq-clause-want : goal.returns-then-eq-clause-want
 returns-then-eq-clause-want g c = λ told is. cc

@@ -29,7 +29,7 @@ pub returns-in_err-room-clause-lacks : goal.returns-in_err-room-clause-lacks
 returns-in_err-room-clause-lacks g c = λ told stands. ok_of_error _ _ c.from_residual.result c.from_residual.ensures.1
 
 pub returns-in_err-room-clause-cause : goal.returns-in_err-room-clause-cause
-returns-in_err-room-clause-cause g c = cause_passed (g.D.Tape.tape c.args.disk.now) (g.D.Tape.tape c.room.new.disk) (stop_of_dir c.in_err-room.field-0.0) c.from_residual.result c.from_residual.ensures.1 (cause_by_dir never never never (g.D.Tape.tape c.args.disk.now) (g.D.Tape.tape c.room.new.disk) c.in_err-room.field-0.0 c.in_err-room.ensures.cause)
+returns-in_err-room-clause-cause g c = cause_passed (g.D.Tape.tape c.args.disk.now) (g.D.Tape.tape c.room.new.disk) (stop_of_dir c.in_err-room.field-0.0) c.from_residual.result c.from_residual.ensures.1 (cause_by_dir never never never tt tt tt (g.D.Tape.tape c.args.disk.now) (g.D.Tape.tape c.room.new.disk) c.in_err-room.field-0.0 c.in_err-room.ensures.cause)
 
 pub returns-in_err-room-clause-want : goal.returns-in_err-room-clause-want
 returns-in_err-room-clause-want g c = λ told. not_wanted_by_dir ℕ c.in_err-room.field-0.0 c.from_residual.result c.from_residual.ensures.1 (c.in_err-room.ensures.want told)
@@ -47,7 +47,7 @@ pub returns-clause-misled : goal.returns-clause-misled
 returns-clause-misled g c = λ told stands. tt
 
 pub returns-clause-cause : goal.returns-clause-cause
-returns-clause-cause g c = tt
+returns-clause-cause g c = c.in_ok-room.ensures.cause
 
 pub returns-clause-want : goal.returns-clause-want
 returns-clause-want g c = λ told is. cc

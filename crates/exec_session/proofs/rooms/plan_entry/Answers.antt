@@ -1,4 +1,4 @@
-use Rattle.std.proofs.Common.{ℕ, Bool, [], ◌∷◌, List, Option, sym, subst, arith}
+use Rattle.std.proofs.Common.{ℕ, Bool, [], ◌∷◌, List, Option, sym, subst, arith, ◌∙◌}
 use Rattle.std.specs.Prelude.{Contains}
 use Rattle.alto_words.specs.Fid.{sys_dir}
 use Rattle.alto_words.specs.declared.fid.Fid.{Fid}
@@ -65,7 +65,7 @@ pub returns-in_err-room-clause-unrefused : goal.returns-in_err-room-clause-unref
 returns-in_err-room-clause-unrefused g c = refused_of_stop Bool (λ r. ⊥) (λ r. ⊥) c.in_err-room.field-0.0 c.from_residual-in_err-room.result c.from_residual-in_err-room.ensures.1 (λ r h. h) c.in_err-room.ensures.unrefused
 
 pub returns-in_err-room-clause-cause : goal.returns-in_err-room-clause-cause
-returns-in_err-room-clause-cause g c = cause_after (g.D.Tape.tape c.args.disk.now) (g.D.Tape.tape c.lacks_room.new.disk) (g.D.Tape.tape c.lacks_own_room.new.disk) c.in_err-room.field-0.0 c.from_residual-in_err-room.result c.from_residual-in_err-room.ensures.1 c.in_ok-spare.ensures.looks.looks.alone.grown c.in_err-room.ensures.cause
+returns-in_err-room-clause-cause g c = cause_after (g.D.Tape.tape c.args.disk.now) (g.D.Tape.tape c.lacks_room.new.disk) (g.D.Tape.tape c.lacks_own_room.new.disk) c.in_err-room.field-0.0 c.from_residual-in_err-room.result c.from_residual-in_err-room.ensures.1 c.in_ok-spare.ensures.cause c.in_err-room.ensures.cause
 
 pub returns-in_err-room-clause-want : goal.returns-in_err-room-clause-want
 returns-in_err-room-clause-want g c = λ told. not_wanted Bool c.in_err-room.field-0.0 c.from_residual-in_err-room.result c.from_residual-in_err-room.ensures.1 (c.in_err-room.ensures.want told)
@@ -80,7 +80,7 @@ pub returns-clause-misled : goal.returns-clause-misled
 returns-clause-misled g c = λ told root stands. tt
 
 pub returns-clause-cause : goal.returns-clause-cause
-returns-clause-cause g c = tt
+returns-clause-cause g c = c.in_ok-room.ensures.cause ∙ c.in_ok-spare.ensures.cause
 
 pub returns-clause-want : goal.returns-clause-want
 returns-clause-want g c = λ told is. cc

@@ -1,6 +1,9 @@
-use Rattle.std.proofs.Common.{Err, ap, sym, ◌∙◌}
+use Rattle.std.proofs.Common.{Err, ap, sym, ◌∙◌, subst}
 use Rattle.disk_records.specs.Tapes.{pack}
 use Rattle.exec_session.proofs.RootFinding.{descriptor_absent, descriptor_may_open, descriptor_met, fid_by_words}
+use Rattle.disk_records.specs.Causes.{IsCause, never, other}
+use Rattle.directory.specs.Errors.{cause_of}
+use Rattle.directory.specs.declared.errors.DirError.{DirError}
 use Rattle.exec_session.proofs.root.find_descriptor.Goals as goal
 
 pub returns-then-eq-clause-found : goal.returns-then-eq-clause-found
@@ -26,7 +29,7 @@ pub returns-then-eq-clause-refused : goal.returns-then-eq-clause-refused
 returns-then-eq-clause-refused g c = λ told there root. tt
 
 pub returns-then-eq-clause-cause : goal.returns-then-eq-clause-cause
-returns-then-eq-clause-cause g c = tt
+returns-then-eq-clause-cause g c = c.in-Ok.ensures.cause
 
 pub returns-then-eq-clause-looks : goal.returns-then-eq-clause-looks
 returns-then-eq-clause-looks g c = c.in-Ok.ensures.looks
@@ -41,7 +44,7 @@ pub returns-else-eq-clause-is : goal.returns-else-eq-clause-is
 returns-else-eq-clause-is g c = λ told there. tt
 
 pub returns-else-eq-clause-cause : goal.returns-else-eq-clause-cause
-returns-else-eq-clause-cause g c = tt
+returns-else-eq-clause-cause g c = c.in-Ok.ensures.cause
 
 pub returns-else-eq-clause-looks : goal.returns-else-eq-clause-looks
 returns-else-eq-clause-looks g c = c.in-Ok.ensures.looks
@@ -56,7 +59,7 @@ pub returns-in-Err-NoSuchName-clause-is : goal.returns-in-Err-NoSuchName-clause-
 returns-in-Err-NoSuchName-clause-is g c = λ told there. tt
 
 pub returns-in-Err-NoSuchName-clause-cause : goal.returns-in-Err-NoSuchName-clause-cause
-returns-in-Err-NoSuchName-clause-cause g c = tt
+returns-in-Err-NoSuchName-clause-cause g c = subst (λ (e : DirError). IsCause (g.D.Tape.tape c.args.disk.now) (g.D.Tape.tape c.lookup.new.disk) (cause_of other never never e)) c.in-Err-NoSuchName.field-0-is c.in-Err-NoSuchName.ensures.cause
 
 pub returns-in-Err-NoSuchName-clause-looks : goal.returns-in-Err-NoSuchName-clause-looks
 returns-in-Err-NoSuchName-clause-looks g c = c.in-Err-NoSuchName.ensures.looks
@@ -71,7 +74,7 @@ pub returns-in-Err-NameTaken-clause-is : goal.returns-in-Err-NameTaken-clause-is
 returns-in-Err-NameTaken-clause-is g c = λ told there. tt
 
 pub returns-in-Err-NameTaken-clause-cause : goal.returns-in-Err-NameTaken-clause-cause
-returns-in-Err-NameTaken-clause-cause g c = tt
+returns-in-Err-NameTaken-clause-cause g c = absurd (subst (λ (e : DirError). IsCause (g.D.Tape.tape c.args.disk.now) (g.D.Tape.tape c.lookup.new.disk) (cause_of other never never e)) c.in-Err-NameTaken.field-0-is c.in-Err-NameTaken.ensures.cause)
 
 pub returns-in-Err-NameTaken-clause-looks : goal.returns-in-Err-NameTaken-clause-looks
 returns-in-Err-NameTaken-clause-looks g c = c.in-Err-NameTaken.ensures.looks
@@ -86,7 +89,7 @@ pub returns-in-Err-NoSlot-clause-is : goal.returns-in-Err-NoSlot-clause-is
 returns-in-Err-NoSlot-clause-is g c = λ told there. tt
 
 pub returns-in-Err-NoSlot-clause-cause : goal.returns-in-Err-NoSlot-clause-cause
-returns-in-Err-NoSlot-clause-cause g c = tt
+returns-in-Err-NoSlot-clause-cause g c = absurd (subst (λ (e : DirError). IsCause (g.D.Tape.tape c.args.disk.now) (g.D.Tape.tape c.lookup.new.disk) (cause_of other never never e)) c.in-Err-NoSlot.field-0-is c.in-Err-NoSlot.ensures.cause)
 
 pub returns-in-Err-NoSlot-clause-looks : goal.returns-in-Err-NoSlot-clause-looks
 returns-in-Err-NoSlot-clause-looks g c = c.in-Err-NoSlot.ensures.looks

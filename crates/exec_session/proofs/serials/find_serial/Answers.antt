@@ -42,7 +42,7 @@ pub returns-in-Some-clause-never_misled : goal.returns-in-Some-clause-never_misl
 returns-in-Some-clause-never_misled g c = tt
 
 pub returns-in-Some-clause-cause : goal.returns-in-Some-clause-cause
-returns-in-Some-clause-cause g c = tt
+returns-in-Some-clause-cause g c = c.in_ok-sweep.ensures.cause
 
 pub returns-in-Some-clause-want : goal.returns-in-Some-clause-want
 returns-in-Some-clause-want g c = λ told is. cc
@@ -57,7 +57,7 @@ pub returns-in-None-clause-never_misled : goal.returns-in-None-clause-never_misl
 returns-in-None-clause-never_misled g c = tt
 
 pub returns-in-None-clause-cause : goal.returns-in-None-clause-cause
-returns-in-None-clause-cause g c = tt
+returns-in-None-clause-cause g c = c.in_ok-sweep.ensures.cause
 
 pub returns-in-None-clause-want : goal.returns-in-None-clause-want
 returns-in-None-clause-want g c = λ told is. cc

@@ -93,7 +93,7 @@ pub returns-in_err-refuse_directory-clause-misled : goal.returns-in_err-refuse_d
 returns-in_err-refuse_directory-clause-misled g c = λ told sound. hint_refused c.in_err-refuse_directory.field-0.0 refusal.IsADirectory c.from_residual-in_err-refuse_directory.result _ c.from_residual-in_err-refuse_directory.ensures.1 (by_test _ _ _ c.in_err-refuse_directory.ensures).1
 
 pub returns-in_err-refuse_directory-clause-cause : goal.returns-in_err-refuse_directory-clause-cause
-returns-in_err-refuse_directory-clause-cause g c = cause_refused (g.D.Tape.tape c.args.disk.now) (g.D.Tape.tape c.find_target.new.disk) c.in_err-refuse_directory.field-0.0 refusal.IsADirectory c.from_residual-in_err-refuse_directory.result c.from_residual-in_err-refuse_directory.ensures.1 (by_test _ _ _ c.in_err-refuse_directory.ensures).1
+returns-in_err-refuse_directory-clause-cause g c = cause_refused (g.D.Tape.tape c.args.disk.now) (g.D.Tape.tape c.find_target.new.disk) c.in_err-refuse_directory.field-0.0 refusal.IsADirectory c.from_residual-in_err-refuse_directory.result c.from_residual-in_err-refuse_directory.ensures.1 (by_test _ _ _ c.in_err-refuse_directory.ensures).1 c.in_ok-file.ensures.cause
 
 pub returns-in_err-refuse_directory-clause-want : goal.returns-in_err-refuse_directory-clause-want
 returns-in_err-refuse_directory-clause-want g c = λ told. not_wanted_refused c.in_err-refuse_directory.field-0.0 refusal.IsADirectory c.from_residual-in_err-refuse_directory.result c.from_residual-in_err-refuse_directory.ensures.1 (by_test _ _ _ c.in_err-refuse_directory.ensures).1
@@ -102,7 +102,7 @@ pub returns-in_err-refuse_descriptor-clause-misled : goal.returns-in_err-refuse_
 returns-in_err-refuse_descriptor-clause-misled g c = λ told sound. hint_refused c.in_err-refuse_descriptor.field-0.0 refusal.SystemFile c.from_residual-in_err-refuse_descriptor.result _ c.from_residual-in_err-refuse_descriptor.ensures.1 (by_test _ _ _ c.in_err-refuse_descriptor.ensures).1
 
 pub returns-in_err-refuse_descriptor-clause-cause : goal.returns-in_err-refuse_descriptor-clause-cause
-returns-in_err-refuse_descriptor-clause-cause g c = cause_refused (g.D.Tape.tape c.args.disk.now) (g.D.Tape.tape c.find_target.new.disk) c.in_err-refuse_descriptor.field-0.0 refusal.SystemFile c.from_residual-in_err-refuse_descriptor.result c.from_residual-in_err-refuse_descriptor.ensures.1 (by_test _ _ _ c.in_err-refuse_descriptor.ensures).1
+returns-in_err-refuse_descriptor-clause-cause g c = cause_refused (g.D.Tape.tape c.args.disk.now) (g.D.Tape.tape c.find_target.new.disk) c.in_err-refuse_descriptor.field-0.0 refusal.SystemFile c.from_residual-in_err-refuse_descriptor.result c.from_residual-in_err-refuse_descriptor.ensures.1 (by_test _ _ _ c.in_err-refuse_descriptor.ensures).1 c.in_ok-file.ensures.cause
 
 pub returns-in_err-refuse_descriptor-clause-want : goal.returns-in_err-refuse_descriptor-clause-want
 returns-in_err-refuse_descriptor-clause-want g c = λ told. not_wanted_refused c.in_err-refuse_descriptor.field-0.0 refusal.SystemFile c.from_residual-in_err-refuse_descriptor.result c.from_residual-in_err-refuse_descriptor.ensures.1 (by_test _ _ _ c.in_err-refuse_descriptor.ensures).1
@@ -117,7 +117,7 @@ pub returns-clause-misled : goal.returns-clause-misled
 returns-clause-misled g c = λ told sound. tt
 
 pub returns-clause-cause : goal.returns-clause-cause
-returns-clause-cause g c = tt
+returns-clause-cause g c = c.in_ok-file.ensures.cause
 
 pub returns-clause-want : goal.returns-clause-want
 returns-clause-want g c = λ told is. cc

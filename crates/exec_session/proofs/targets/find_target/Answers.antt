@@ -56,7 +56,7 @@ pub returns-in_ok-find_path-in-ByPath-clause-misled : goal.returns-in_ok-find_pa
 returns-in_ok-find_path-in-ByPath-clause-misled g c = λ told sound. tt
 
 pub returns-in_ok-find_path-in-ByPath-clause-cause : goal.returns-in_ok-find_path-in-ByPath-clause-cause
-returns-in_ok-find_path-in-ByPath-clause-cause g c = tt
+returns-in_ok-find_path-in-ByPath-clause-cause g c = c.in_ok-find_path-in-ByPath.ensures.cause
 
 pub returns-in_ok-find_path-in-ByPath-clause-want : goal.returns-in_ok-find_path-in-ByPath-clause-want
 returns-in_ok-find_path-in-ByPath-clause-want g c = λ told is. cc

@@ -137,9 +137,9 @@ returns-in_err-file-clause-alone g c = alone_twice (alone_twice c.in_ok-fresh.en
 pub returns-clause-alone : goal.returns-clause-alone
 returns-clause-alone g c = alone_twice (alone_twice c.in_ok-fresh.ensures.looks.alone c.in_ok-open_mark.ensures.alone) c.in_ok-file.ensures.alone
 
--- no fault is told here
+-- no fault came
 pub returns-clause-cause : goal.returns-clause-cause
-returns-clause-cause g c = tt
+returns-clause-cause g c = c.in_ok-file.ensures.cause ∙ c.in_ok-open_mark.ensures.cause ∙ c.in_ok-fresh.ensures.cause
 
 -- ---- a refusal comes before the first record write
 pub returns-in_err-fresh-clause-unwritten : goal.returns-in_err-fresh-clause-unwritten
@@ -170,12 +170,12 @@ returns-in_err-fresh-clause-cause g c = cause_passed (g.D.Tape.tape c.args.disk.
 
 pub returns-in_err-open_mark-clause-cause : goal.returns-in_err-open_mark-clause-cause
 returns-in_err-open_mark-clause-cause g c =
-    cause_after (g.D.Tape.tape c.args.disk.now) (g.D.Tape.tape c.reserve_new.new.disk) (g.D.Tape.tape c.open_mark.new.disk) c.in_err-open_mark.field-0.0 c.from_residual-in_err-open_mark.result c.from_residual-in_err-open_mark.ensures.1 c.in_ok-fresh.ensures.looks.alone.grown c.in_err-open_mark.ensures.cause
+    cause_after (g.D.Tape.tape c.args.disk.now) (g.D.Tape.tape c.reserve_new.new.disk) (g.D.Tape.tape c.open_mark.new.disk) c.in_err-open_mark.field-0.0 c.from_residual-in_err-open_mark.result c.from_residual-in_err-open_mark.ensures.1 c.in_ok-fresh.ensures.cause c.in_err-open_mark.ensures.cause
 
 pub returns-in_err-file-clause-cause : goal.returns-in_err-file-clause-cause
 returns-in_err-file-clause-cause g c =
     cause_after (g.D.Tape.tape c.args.disk.now) (g.D.Tape.tape c.open_mark.new.disk) (g.D.Tape.tape c.make_entered.new.disk) c.in_err-file.field-0.0 c.from_residual-in_err-file.result c.from_residual-in_err-file.ensures.1
-    (alone_twice c.in_ok-fresh.ensures.looks.alone c.in_ok-open_mark.ensures.alone).grown c.in_err-file.ensures.cause
+    (c.in_ok-open_mark.ensures.cause ∙ c.in_ok-fresh.ensures.cause) c.in_err-file.ensures.cause
 
 pub returns-in_err-fresh-clause-made : goal.returns-in_err-fresh-clause-made
 returns-in_err-fresh-clause-made g c = ok_of_error (λ s. s ≡ c.in_err-fresh.field-0.0) _ c.from_residual.result c.from_residual.ensures.1

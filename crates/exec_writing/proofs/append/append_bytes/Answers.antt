@@ -205,15 +205,15 @@ returns-in_err-found-clause-cause g c = cause_passed (g.D.Tape.tape c.args.disk.
 
 pub returns-in_err-fresh-clause-cause : goal.returns-in_err-fresh-clause-cause
 returns-in_err-fresh-clause-cause g c =
-    cause_after (g.D.Tape.tape c.args.disk.now) (g.D.Tape.tape c.find_measured.new.disk) (g.D.Tape.tape c.reserve_pages.new.disk) c.in_err-fresh.field-0.0 c.from_residual-in_err-fresh.result c.from_residual-in_err-fresh.ensures.1 c.find_measured.ensures.looks.looks.alone.grown c.in_err-fresh.ensures.cause
+    cause_after (g.D.Tape.tape c.args.disk.now) (g.D.Tape.tape c.find_measured.new.disk) (g.D.Tape.tape c.reserve_pages.new.disk) c.in_err-fresh.field-0.0 c.from_residual-in_err-fresh.result c.from_residual-in_err-fresh.ensures.1 c.in_ok-found.ensures.cause c.in_err-fresh.ensures.cause
 
 pub returns-in_err-write_append-clause-cause : goal.returns-in_err-write_append-clause-cause
 returns-in_err-write_append-clause-cause g c =
     cause_after (g.D.Tape.tape c.args.disk.now) (g.D.Tape.tape c.reserve_pages.new.disk) (g.D.Tape.tape c.write_append.new.disk) c.in_err-write_append.field-0.0 c.from_residual-in_err-write_append.result c.from_residual-in_err-write_append.ensures.1
-    (alone_twice c.find_measured.ensures.looks.looks.alone c.reserve_pages.ensures.looks.alone).grown c.in_err-write_append.ensures.cause
+    (c.in_ok-fresh.ensures.cause ∙ c.in_ok-found.ensures.cause) c.in_err-write_append.ensures.cause
 
 pub returns-in_err-length_text-clause-cause : goal.returns-in_err-length_text-clause-cause
-returns-in_err-length_text-clause-cause g c = cause_passed (g.D.Tape.tape c.args.disk.now) (g.D.Tape.tape c.write_append.new.disk) stop.Memory c.from_residual-in_err-length_text.result c.from_residual-in_err-length_text.ensures.1 tt
+returns-in_err-length_text-clause-cause g c = cause_passed (g.D.Tape.tape c.args.disk.now) (g.D.Tape.tape c.write_append.new.disk) stop.Memory c.from_residual-in_err-length_text.result c.from_residual-in_err-length_text.ensures.1 (c.in_ok-write_append.ensures.cause ∙ c.in_ok-fresh.ensures.cause ∙ c.in_ok-found.ensures.cause)
 
 pub returns-in_err-found-clause-alone : goal.returns-in_err-found-clause-alone
 returns-in_err-found-clause-alone g c = c.in_err-found.ensures.looks.looks.alone
@@ -222,7 +222,7 @@ pub returns-clause-unwritten : goal.returns-clause-unwritten
 returns-clause-unwritten g c = λ told. tt
 
 pub returns-clause-cause : goal.returns-clause-cause
-returns-clause-cause g c = tt
+returns-clause-cause g c = c.in_ok-write_append.ensures.cause ∙ c.in_ok-fresh.ensures.cause ∙ c.in_ok-found.ensures.cause
 
 pub reserve_pages-requires-clause-shape : goal.reserve_pages-requires-clause-shape
 reserve_pages-requires-clause-shape g c =

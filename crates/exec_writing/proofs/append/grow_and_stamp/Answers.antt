@@ -62,7 +62,7 @@ pub returns-clause-unrefused : goal.returns-clause-unrefused
 returns-clause-unrefused g c = c.stamp_file.ensures.unrefused
 
 pub returns-clause-cause : goal.returns-clause-cause
-returns-clause-cause g c = cause_sooner (g.D.Tape.tape c.args.disk.now) (g.D.Tape.tape c.grow_file.new.disk) (g.D.Tape.tape c.stamp_file.new.disk) c.stamp_file.result c.in_ok-grow_file.ensures.alone.grown c.stamp_file.ensures.cause
+returns-clause-cause g c = cause_sooner (g.D.Tape.tape c.args.disk.now) (g.D.Tape.tape c.grow_file.new.disk) (g.D.Tape.tape c.stamp_file.new.disk) c.stamp_file.result c.in_ok-grow_file.ensures.cause c.stamp_file.ensures.cause
 
 pub returns-clause-works : goal.returns-clause-works
 returns-clause-works g c = works_twice c.in_ok-grow_file.ensures.works c.stamp_file.ensures.works

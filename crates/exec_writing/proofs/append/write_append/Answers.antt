@@ -60,7 +60,7 @@ pub returns-clause-unrefused : goal.returns-clause-unrefused
 returns-clause-unrefused g c = c.grow_and_stamp.ensures.unrefused
 
 pub returns-clause-cause : goal.returns-clause-cause
-returns-clause-cause g c = cause_sooner (g.D.Tape.tape c.args.disk.now) (g.D.Tape.tape c.open_mark.new.disk) (g.D.Tape.tape c.grow_and_stamp.new.disk) c.grow_and_stamp.result c.in_ok-open_mark.ensures.alone.grown c.grow_and_stamp.ensures.cause
+returns-clause-cause g c = cause_sooner (g.D.Tape.tape c.args.disk.now) (g.D.Tape.tape c.open_mark.new.disk) (g.D.Tape.tape c.grow_and_stamp.new.disk) c.grow_and_stamp.result c.in_ok-open_mark.ensures.cause c.grow_and_stamp.ensures.cause
 
 pub returns-clause-works : goal.returns-clause-works
 returns-clause-works g c = works_twice c.in_ok-open_mark.ensures.works c.grow_and_stamp.ensures.works

@@ -241,12 +241,12 @@ returns-in_err-bytes-clause-cause g c = cause_passed (g.D.Tape.tape c.args.disk.
 
 pub returns-in_err-fresh-clause-cause : goal.returns-in_err-fresh-clause-cause
 returns-in_err-fresh-clause-cause g c =
-    cause_after (g.D.Tape.tape c.args.disk.now) (g.D.Tape.tape c.bytes_of.new.disk) (g.D.Tape.tape c.reserve_new.new.disk) c.in_err-fresh.field-0.0 c.from_residual-in_err-fresh.result c.from_residual-in_err-fresh.ensures.1 c.in_ok-bytes.ensures.looks.looks.alone.grown c.in_err-fresh.ensures.cause
+    cause_after (g.D.Tape.tape c.args.disk.now) (g.D.Tape.tape c.bytes_of.new.disk) (g.D.Tape.tape c.reserve_new.new.disk) c.in_err-fresh.field-0.0 c.from_residual-in_err-fresh.result c.from_residual-in_err-fresh.ensures.1 c.in_ok-bytes.ensures.cause c.in_err-fresh.ensures.cause
 
 pub returns-in_err-open_mark-clause-cause : goal.returns-in_err-open_mark-clause-cause
 returns-in_err-open_mark-clause-cause g c =
     cause_after (g.D.Tape.tape c.args.disk.now) (g.D.Tape.tape c.reserve_new.new.disk) (g.D.Tape.tape c.open_mark.new.disk) c.in_err-open_mark.field-0.0 c.from_residual-in_err-open_mark.result c.from_residual-in_err-open_mark.ensures.1
-    (alone_twice c.in_ok-bytes.ensures.looks.looks.alone c.in_ok-fresh.ensures.looks.alone).grown c.in_err-open_mark.ensures.cause
+    (c.in_ok-fresh.ensures.cause ∙ c.in_ok-bytes.ensures.cause) c.in_err-open_mark.ensures.cause
 
 pub returns-in_err-bytes-clause-made : goal.returns-in_err-bytes-clause-made
 returns-in_err-bytes-clause-made g c = ok_of_error (λ s. s ≡ c.in_err-bytes.field-0.0) _ c.from_residual.result c.from_residual.ensures.1
@@ -262,7 +262,7 @@ returns-in_err-open_mark-clause-made g c = ok_of_error (λ s. s ≡ c.in_err-ope
 
 pub returns-clause-cause : goal.returns-clause-cause
 returns-clause-cause g c =
-    cause_sooner (g.D.Tape.tape c.args.disk.now) (g.D.Tape.tape c.open_mark.new.disk) (g.D.Tape.tape c.write_copy.new.disk) c.write_copy.result (alone_twice (alone_twice c.in_ok-bytes.ensures.looks.looks.alone c.in_ok-fresh.ensures.looks.alone) c.in_ok-open_mark.ensures.alone).grown c.write_copy.ensures.cause
+    cause_sooner (g.D.Tape.tape c.args.disk.now) (g.D.Tape.tape c.open_mark.new.disk) (g.D.Tape.tape c.write_copy.new.disk) c.write_copy.result (c.in_ok-open_mark.ensures.cause ∙ c.in_ok-fresh.ensures.cause ∙ c.in_ok-bytes.ensures.cause) c.write_copy.ensures.cause
 
 pub returns-clause-made : goal.returns-clause-made
 returns-clause-made g c =

@@ -139,17 +139,17 @@ returns-in_err-fid-clause-unwritten g c = λ told. refused_of_stop Fid (λ r. ad
 
 pub returns-in_err-fid-clause-cause : goal.returns-in_err-fid-clause-cause
 returns-in_err-fid-clause-cause g c =
-    cause_after (g.D.Tape.tape c.args.disk.now) (g.D.Tape.tape c.plan_copy.new.disk) (g.D.Tape.tape c.apply_copy.new.disk) c.in_err-fid.field-0.0 c.from_residual-in_err-fid.result c.from_residual-in_err-fid.ensures.1 c.in_ok-plan.ensures.looks.looks.alone.grown c.in_err-fid.ensures.cause
+    cause_after (g.D.Tape.tape c.args.disk.now) (g.D.Tape.tape c.plan_copy.new.disk) (g.D.Tape.tape c.apply_copy.new.disk) c.in_err-fid.field-0.0 c.from_residual-in_err-fid.result c.from_residual-in_err-fid.ensures.1 c.in_ok-plan.ensures.cause c.in_err-fid.ensures.cause
 
 pub returns-in_err-made_text-clause-unwritten : goal.returns-in_err-made_text-clause-unwritten
 returns-in_err-made_text-clause-unwritten g c =
     λ told. never_refused (Unit {0}) (λ x. added (g.D.Tape.tape c.args.disk.now) (g.D.Tape.tape c.apply_copy.new.disk) ≡ []) stop.Memory c.from_residual-in_err-made_text.result c.from_residual-in_err-made_text.ensures.1 tt
 
 pub returns-in_err-made_text-clause-cause : goal.returns-in_err-made_text-clause-cause
-returns-in_err-made_text-clause-cause g c = cause_passed (g.D.Tape.tape c.args.disk.now) (g.D.Tape.tape c.apply_copy.new.disk) stop.Memory c.from_residual-in_err-made_text.result c.from_residual-in_err-made_text.ensures.1 tt
+returns-in_err-made_text-clause-cause g c = cause_passed (g.D.Tape.tape c.args.disk.now) (g.D.Tape.tape c.apply_copy.new.disk) stop.Memory c.from_residual-in_err-made_text.result c.from_residual-in_err-made_text.ensures.1 (c.in_ok-fid.ensures.cause ∙ c.in_ok-plan.ensures.cause)
 
 pub returns-clause-unwritten : goal.returns-clause-unwritten
 returns-clause-unwritten g c = λ told. tt
 
 pub returns-clause-cause : goal.returns-clause-cause
-returns-clause-cause g c = tt
+returns-clause-cause g c = c.in_ok-fid.ensures.cause ∙ c.in_ok-plan.ensures.cause

@@ -1,4 +1,4 @@
-use Rattle.std.proofs.Common.{Result, ℕ, [], false, true, ◌<◌, ◌==◌, ◌≡◌, ◌∙◌, arith, length, subst, sym, ◌∷◌}
+use Rattle.std.proofs.Common.{Result, ℕ, [], false, true, ◌<◌, ◌==◌, ◌≡◌, ◌∙◌, arith, length, subst, sym, ◌∷◌, refl}
 use Rattle.std.proofs.lemmas.Bool.Decides.{nat_tests}
 use Rattle.disk_records.proofs.Growing.{alone_twice, alone_here}
 use Rattle.pack_model.specs.operations.Step.Operation.{stamp}
@@ -68,7 +68,7 @@ pub returns-clause-unrefused : goal.returns-clause-unrefused
 returns-clause-unrefused g c = c.stamp_file.ensures.unrefused
 
 pub returns-clause-cause : goal.returns-clause-cause
-returns-clause-cause g c = cause_sooner (g.D.Tape.tape c.args.disk.now) (g.D.Tape.tape c.grow_file.new.disk) (g.D.Tape.tape c.stamp_file.new.disk) c.stamp_file.result c.in_ok-grow_file.ensures.alone.grown c.stamp_file.ensures.cause
+returns-clause-cause g c = cause_sooner (g.D.Tape.tape c.args.disk.now) (g.D.Tape.tape c.grow_file.new.disk) (g.D.Tape.tape c.stamp_file.new.disk) c.stamp_file.result c.in_ok-grow_file.ensures.cause c.stamp_file.ensures.cause
 
 pub returns-clause-works : goal.returns-clause-works
 returns-clause-works g c = works_twice c.in_ok-grow_file.ensures.works c.stamp_file.ensures.works
@@ -77,7 +77,7 @@ pub returns-then-is_empty-clause-unrefused : goal.returns-then-is_empty-clause-u
 returns-then-is_empty-clause-unrefused g c = tt
 
 pub returns-then-is_empty-clause-cause : goal.returns-then-is_empty-clause-cause
-returns-then-is_empty-clause-cause g c = tt
+returns-then-is_empty-clause-cause g c = refl
 
 pub returns-then-is_empty-clause-works : goal.returns-then-is_empty-clause-works
 returns-then-is_empty-clause-works g c = works_here c.args.session.now

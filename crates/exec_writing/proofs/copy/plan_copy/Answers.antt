@@ -107,13 +107,13 @@ returns-in_err-entry-clause-planned g c = λ told sound. ok_of_error (λ s. s �
 
 pub returns-in_err-entry-clause-cause : goal.returns-in_err-entry-clause-cause
 returns-in_err-entry-clause-cause g c =
-    cause_after (g.D.Tape.tape c.args.disk.now) (g.D.Tape.tape c.find_target.new.disk) (g.D.Tape.tape c.plan_place.new.disk) c.in_err-entry.field-0.0 c.from_residual-in_err-entry.result c.from_residual-in_err-entry.ensures.1 c.in_ok-source.ensures.looks.looks.alone.grown c.in_err-entry.ensures.cause
+    cause_after (g.D.Tape.tape c.args.disk.now) (g.D.Tape.tape c.find_target.new.disk) (g.D.Tape.tape c.plan_place.new.disk) c.in_err-entry.field-0.0 c.from_residual-in_err-entry.result c.from_residual-in_err-entry.ensures.1 c.in_ok-source.ensures.cause c.in_err-entry.ensures.cause
 
 pub returns-in_err-entry-clause-want : goal.returns-in_err-entry-clause-want
 returns-in_err-entry-clause-want g c = λ told. not_wanted NewEntry c.in_err-entry.field-0.0 c.from_residual-in_err-entry.result c.from_residual-in_err-entry.ensures.1 (c.in_err-entry.ensures.want told)
 
 pub returns-clause-cause : goal.returns-clause-cause
-returns-clause-cause g c = tt
+returns-clause-cause g c = c.in_ok-entry.ensures.cause ∙ c.in_ok-source.ensures.cause
 
 pub returns-clause-refused : goal.returns-clause-refused
 returns-clause-refused g c = λ told sound. tt

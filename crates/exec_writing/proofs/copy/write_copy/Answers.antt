@@ -104,7 +104,7 @@ returns-in_err-fill_copy-clause-unrefused g c = never_refused (Unit {0}) (λ r. 
 
 pub returns-in_err-fill_copy-clause-cause : goal.returns-in_err-fill_copy-clause-cause
 returns-in_err-fill_copy-clause-cause g c =
-    cause_after (g.D.Tape.tape c.args.disk.now) (g.D.Tape.tape c.make_entered.new.disk) (g.D.Tape.tape c.fill_copy.new.disk) c.in_err-fill_copy.field-0.0 c.from_residual-in_err-fill_copy.result c.from_residual-in_err-fill_copy.ensures.1 c.in_ok-file.ensures.alone.grown c.in_err-fill_copy.ensures.cause
+    cause_after (g.D.Tape.tape c.args.disk.now) (g.D.Tape.tape c.make_entered.new.disk) (g.D.Tape.tape c.fill_copy.new.disk) c.in_err-fill_copy.field-0.0 c.from_residual-in_err-fill_copy.result c.from_residual-in_err-fill_copy.ensures.1 c.in_ok-file.ensures.cause c.in_err-fill_copy.ensures.cause
 
 pub returns-in_err-fill_copy-clause-works : goal.returns-in_err-fill_copy-clause-works
 returns-in_err-fill_copy-clause-works g c = works_twice c.in_ok-file.ensures.works c.in_err-fill_copy.ensures.works
@@ -113,7 +113,7 @@ pub returns-clause-unrefused : goal.returns-clause-unrefused
 returns-clause-unrefused g c = tt
 
 pub returns-clause-cause : goal.returns-clause-cause
-returns-clause-cause g c = tt
+returns-clause-cause g c = c.in_ok-fill_copy.ensures.cause ∙ c.in_ok-file.ensures.cause
 
 pub returns-clause-works : goal.returns-clause-works
 returns-clause-works g c = works_twice c.in_ok-file.ensures.works c.in_ok-fill_copy.ensures.works

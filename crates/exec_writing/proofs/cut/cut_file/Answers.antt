@@ -141,7 +141,7 @@ returns-clause-alone g c = alone_twice c.find_measured.ensures.looks.looks.alone
 
 -- no fault is told here
 pub returns-clause-cause : goal.returns-clause-cause
-returns-clause-cause g c = tt
+returns-clause-cause g c = c.in_ok-write_cut.ensures.cause ∙ c.in_ok-found.ensures.cause
 
 pub returns-in_err-found-clause-unwritten : goal.returns-in_err-found-clause-unwritten
 returns-in_err-found-clause-unwritten g c = λ told. if_refused (added (g.D.Tape.tape c.args.disk.now) (g.D.Tape.tape c.find_measured.new.disk) ≡ []) c.from_residual.result (c.in_err-found.ensures.looks.looks.silent told)
@@ -158,14 +158,14 @@ returns-in_err-write_cut-clause-unwritten g c =
 
 pub returns-in_err-write_cut-clause-cause : goal.returns-in_err-write_cut-clause-cause
 returns-in_err-write_cut-clause-cause g c =
-    cause_after (g.D.Tape.tape c.args.disk.now) (g.D.Tape.tape c.find_measured.new.disk) (g.D.Tape.tape c.write_cut.new.disk) c.in_err-write_cut.field-0.0 c.from_residual-in_err-write_cut.result c.from_residual-in_err-write_cut.ensures.1 c.in_ok-found.ensures.looks.looks.alone.grown c.in_err-write_cut.ensures.cause
+    cause_after (g.D.Tape.tape c.args.disk.now) (g.D.Tape.tape c.find_measured.new.disk) (g.D.Tape.tape c.write_cut.new.disk) c.in_err-write_cut.field-0.0 c.from_residual-in_err-write_cut.result c.from_residual-in_err-write_cut.ensures.1 c.in_ok-found.ensures.cause c.in_err-write_cut.ensures.cause
 
 pub returns-in_err-length_text-clause-unwritten : goal.returns-in_err-length_text-clause-unwritten
 returns-in_err-length_text-clause-unwritten g c =
     λ told. never_refused (Unit {0}) (λ x. added (g.D.Tape.tape c.args.disk.now) (g.D.Tape.tape c.write_cut.new.disk) ≡ []) stop.Memory c.from_residual-in_err-length_text.result c.from_residual-in_err-length_text.ensures.1 tt
 
 pub returns-in_err-length_text-clause-cause : goal.returns-in_err-length_text-clause-cause
-returns-in_err-length_text-clause-cause g c = cause_passed (g.D.Tape.tape c.args.disk.now) (g.D.Tape.tape c.write_cut.new.disk) stop.Memory c.from_residual-in_err-length_text.result c.from_residual-in_err-length_text.ensures.1 tt
+returns-in_err-length_text-clause-cause g c = cause_passed (g.D.Tape.tape c.args.disk.now) (g.D.Tape.tape c.write_cut.new.disk) stop.Memory c.from_residual-in_err-length_text.result c.from_residual-in_err-length_text.ensures.1 (c.in_ok-write_cut.ensures.cause ∙ c.in_ok-found.ensures.cause)
 
 pub returns-clause-unwritten : goal.returns-clause-unwritten
 returns-clause-unwritten g c = λ told. tt
@@ -177,7 +177,7 @@ pub returns-then-found-length-clause-unwritten : goal.returns-then-found-length-
 returns-then-found-length-clause-unwritten g c = λ told. if_refused (added (g.D.Tape.tape c.args.disk.now) (g.D.Tape.tape c.find_measured.new.disk) ≡ []) c.refused.result (c.find_measured.ensures.looks.looks.silent told)
 
 pub returns-then-found-length-clause-cause : goal.returns-then-found-length-clause-cause
-returns-then-found-length-clause-cause g c = subst (HasCause cause_of_stop (g.D.Tape.tape c.args.disk.now) (g.D.Tape.tape c.find_measured.new.disk)) (sym c.refused.ensures) tt
+returns-then-found-length-clause-cause g c = subst (HasCause cause_of_stop (g.D.Tape.tape c.args.disk.now) (g.D.Tape.tape c.find_measured.new.disk)) (sym c.refused.ensures) c.in_ok-found.ensures.cause
 
 pub write_cut-requires-clause-shape : goal.write_cut-requires-clause-shape
 write_cut-requires-clause-shape g c =

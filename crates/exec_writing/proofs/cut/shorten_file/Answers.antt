@@ -66,7 +66,7 @@ pub returns-then-length-found-clause-unrefused : goal.returns-then-length-found-
 returns-then-length-found-clause-unrefused g c = tt
 
 pub returns-then-length-found-clause-cause : goal.returns-then-length-found-clause-cause
-returns-then-length-found-clause-cause g c = tt
+returns-then-length-found-clause-cause g c = refl
 
 pub returns-then-length-found-clause-works : goal.returns-then-length-found-clause-works
 returns-then-length-found-clause-works g c = works_here c.args.session.now

@@ -52,14 +52,14 @@ returns-in_err-found-clause-cause g c = cause_passed (g.D.Tape.tape c.args.disk.
 
 pub returns-in_err-refuse_directory-clause-cause : goal.returns-in_err-refuse_directory-clause-cause
 returns-in_err-refuse_directory-clause-cause g c =
-    cause_refused (g.D.Tape.tape c.args.disk.now) (g.D.Tape.tape c.find_path.new.disk) c.in_err-refuse_directory.field-0.0 refusal.IsADirectory c.from_residual-in_err-refuse_directory.result c.from_residual-in_err-refuse_directory.ensures.1 (by_test (is_directory c.in_ok-found.found.file.fid) c.in_err-refuse_directory.field-0.0 refusal.IsADirectory c.in_err-refuse_directory.ensures).1
+    cause_refused (g.D.Tape.tape c.args.disk.now) (g.D.Tape.tape c.find_path.new.disk) c.in_err-refuse_directory.field-0.0 refusal.IsADirectory c.from_residual-in_err-refuse_directory.result c.from_residual-in_err-refuse_directory.ensures.1 (by_test (is_directory c.in_ok-found.found.file.fid) c.in_err-refuse_directory.field-0.0 refusal.IsADirectory c.in_err-refuse_directory.ensures).1 c.in_ok-found.ensures.cause
 
 pub returns-in_err-refuse_descriptor-clause-cause : goal.returns-in_err-refuse_descriptor-clause-cause
 returns-in_err-refuse_descriptor-clause-cause g c =
-    cause_refused (g.D.Tape.tape c.args.disk.now) (g.D.Tape.tape c.find_path.new.disk) c.in_err-refuse_descriptor.field-0.0 refusal.SystemFile c.from_residual-in_err-refuse_descriptor.result c.from_residual-in_err-refuse_descriptor.ensures.1 (by_test (is_fid c.in_ok-found.found.file.fid disk_descriptor) c.in_err-refuse_descriptor.field-0.0 refusal.SystemFile c.in_err-refuse_descriptor.ensures).1
+    cause_refused (g.D.Tape.tape c.args.disk.now) (g.D.Tape.tape c.find_path.new.disk) c.in_err-refuse_descriptor.field-0.0 refusal.SystemFile c.from_residual-in_err-refuse_descriptor.result c.from_residual-in_err-refuse_descriptor.ensures.1 (by_test (is_fid c.in_ok-found.found.file.fid disk_descriptor) c.in_err-refuse_descriptor.field-0.0 refusal.SystemFile c.in_err-refuse_descriptor.ensures).1 c.in_ok-found.ensures.cause
 
 pub returns-clause-cause : goal.returns-clause-cause
-returns-clause-cause g c = tt
+returns-clause-cause g c = c.in_ok-found.ensures.cause
 
 pub returns-in_err-found-clause-looks : goal.returns-in_err-found-clause-looks
 returns-in_err-found-clause-looks g c = c.in_err-found.ensures.looks

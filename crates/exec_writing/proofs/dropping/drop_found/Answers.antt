@@ -92,8 +92,9 @@ returns-clause-unrefused g c = subst (λ (r : Result (Unit {0}) Stop). IfRefused
 
 pub returns-clause-cause : goal.returns-clause-cause
 returns-clause-cause g c =
-    cause_sooner (g.D.Tape.tape c.args.disk.now) (g.D.Tape.tape c.drop_file-dropped.new.disk) (g.D.Tape.tape c.free_slot-freed.new.disk) c.entered.result c.drop_file-dropped.ensures.alone.grown
-    (subst (λ (r : Result (Unit {0}) Stop). HasCause cause_of_stop (g.D.Tape.tape c.drop_file-dropped.new.disk) (g.D.Tape.tape c.free_slot-freed.new.disk) r) (sym c.entered.ensures) (entered_cause other never never (g.D.Tape.tape c.drop_file-dropped.new.disk) (g.D.Tape.tape c.free_slot-freed.new.disk) c.args.found.now.dir c.free_slot-freed.result c.free_slot-freed.ensures.cause))
+    cause_sooner (g.D.Tape.tape c.args.disk.now) (g.D.Tape.tape c.drop_file-dropped.new.disk) (g.D.Tape.tape c.free_slot-freed.new.disk) c.entered.result
+    (subst (λ (r : Result (Unit {0}) Stop). HasCause cause_of_stop (g.D.Tape.tape c.args.disk.now) (g.D.Tape.tape c.drop_file-dropped.new.disk) r) (sym c.in_ok-written.ensures) (written_cause (g.D.Tape.tape c.args.disk.now) (g.D.Tape.tape c.drop_file-dropped.new.disk) c.args.found.now.file c.drop_file-dropped.result c.drop_file-dropped.ensures.cause))
+    (subst (λ (r : Result (Unit {0}) Stop). HasCause cause_of_stop (g.D.Tape.tape c.drop_file-dropped.new.disk) (g.D.Tape.tape c.free_slot-freed.new.disk) r) (sym c.entered.ensures) (entered_cause other never never tt tt tt (g.D.Tape.tape c.drop_file-dropped.new.disk) (g.D.Tape.tape c.free_slot-freed.new.disk) c.args.found.now.dir c.free_slot-freed.result c.free_slot-freed.ensures.cause))
 
 pub returns-clause-works : goal.returns-clause-works
 returns-clause-works g c =

@@ -97,7 +97,7 @@ returns-in_err-drop_found-clause-unrefused g c = never_refused (Unit {0}) (λ r.
 
 pub returns-in_err-drop_found-clause-cause : goal.returns-in_err-drop_found-clause-cause
 returns-in_err-drop_found-clause-cause g c =
-    cause_after (g.D.Tape.tape c.args.disk.now) (g.D.Tape.tape c.open_mark.new.disk) (g.D.Tape.tape c.drop_found.new.disk) c.in_err-drop_found.field-0.0 c.from_residual-in_err-drop_found.result c.from_residual-in_err-drop_found.ensures.1 c.in_ok-open_mark.ensures.alone.grown c.in_err-drop_found.ensures.cause
+    cause_after (g.D.Tape.tape c.args.disk.now) (g.D.Tape.tape c.open_mark.new.disk) (g.D.Tape.tape c.drop_found.new.disk) c.in_err-drop_found.field-0.0 c.from_residual-in_err-drop_found.result c.from_residual-in_err-drop_found.ensures.1 c.in_ok-open_mark.ensures.cause c.in_err-drop_found.ensures.cause
 
 pub returns-in_err-drop_found-clause-works : goal.returns-in_err-drop_found-clause-works
 returns-in_err-drop_found-clause-works g c = works_twice c.in_ok-open_mark.ensures.works c.in_err-drop_found.ensures.works
@@ -106,7 +106,7 @@ pub returns-in_err-done_text-clause-unrefused : goal.returns-in_err-done_text-cl
 returns-in_err-done_text-clause-unrefused g c = never_refused (Unit {0}) (λ r. ⊥) stop.Memory c.from_residual-in_err-done_text.result c.from_residual-in_err-done_text.ensures.1 tt
 
 pub returns-in_err-done_text-clause-cause : goal.returns-in_err-done_text-clause-cause
-returns-in_err-done_text-clause-cause g c = cause_passed (g.D.Tape.tape c.args.disk.now) (g.D.Tape.tape c.drop_found.new.disk) stop.Memory c.from_residual-in_err-done_text.result c.from_residual-in_err-done_text.ensures.1 tt
+returns-in_err-done_text-clause-cause g c = cause_passed (g.D.Tape.tape c.args.disk.now) (g.D.Tape.tape c.drop_found.new.disk) stop.Memory c.from_residual-in_err-done_text.result c.from_residual-in_err-done_text.ensures.1 (c.in_ok-drop_found.ensures.cause ∙ c.in_ok-open_mark.ensures.cause)
 
 pub returns-in_err-done_text-clause-works : goal.returns-in_err-done_text-clause-works
 returns-in_err-done_text-clause-works g c = works_twice c.in_ok-open_mark.ensures.works c.in_ok-drop_found.ensures.works
@@ -115,7 +115,7 @@ pub returns-clause-unrefused : goal.returns-clause-unrefused
 returns-clause-unrefused g c = tt
 
 pub returns-clause-cause : goal.returns-clause-cause
-returns-clause-cause g c = tt
+returns-clause-cause g c = c.in_ok-drop_found.ensures.cause ∙ c.in_ok-open_mark.ensures.cause
 
 pub returns-clause-works : goal.returns-clause-works
 returns-clause-works g c = works_twice c.in_ok-open_mark.ensures.works c.in_ok-drop_found.ensures.works

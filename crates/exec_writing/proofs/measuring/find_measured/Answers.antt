@@ -99,13 +99,13 @@ returns-in_err-length-clause-most g c = ok_of_error (λ s. s ≡ c.in_err-length
 
 pub returns-in_err-length-clause-cause : goal.returns-in_err-length-clause-cause
 returns-in_err-length-clause-cause g c =
-    cause_after (g.D.Tape.tape c.args.disk.now) (g.D.Tape.tape c.find_ordinary.new.disk) (g.D.Tape.tape c.length_of.new.disk) c.in_err-length.field-0.0 c.from_residual-in_err-length.result c.from_residual-in_err-length.ensures.1 c.in_ok-file.ensures.looks.looks.alone.grown c.in_err-length.ensures.cause
+    cause_after (g.D.Tape.tape c.args.disk.now) (g.D.Tape.tape c.find_ordinary.new.disk) (g.D.Tape.tape c.length_of.new.disk) c.in_err-length.field-0.0 c.from_residual-in_err-length.result c.from_residual-in_err-length.ensures.1 c.in_ok-file.ensures.cause c.in_err-length.ensures.cause
 
 pub returns-in_err-length-clause-want : goal.returns-in_err-length-clause-want
 returns-in_err-length-clause-want g c = λ told. not_wanted ℕ c.in_err-length.field-0.0 c.from_residual-in_err-length.result c.from_residual-in_err-length.ensures.1 (c.in_err-length.ensures.want told)
 
 pub returns-clause-cause : goal.returns-clause-cause
-returns-clause-cause g c = tt
+returns-clause-cause g c = c.in_ok-length.ensures.cause ∙ c.in_ok-file.ensures.cause
 
 pub returns-in_err-file-clause-looks : goal.returns-in_err-file-clause-looks
 returns-in_err-file-clause-looks g c = looks_about_within (65588 * 131073) (omega arith) c.in_err-file.ensures.looks

@@ -93,7 +93,7 @@ pub returns-in_err-refuse_held_base-clause-want : goal.returns-in_err-refuse_hel
 returns-in_err-refuse_held_base-clause-want g c = λ told. not_wanted (Unit {0}) c.in_err-refuse_held_base.field-0.0 c.from_residual.result c.from_residual.ensures.1 (c.in_err-refuse_held_base.ensures.want told)
 
 pub returns-clause-cause : goal.returns-clause-cause
-returns-clause-cause g c = cause_sooner (g.D.Tape.tape c.args.disk.now) (g.D.Tape.tape c.refuse_held_base.new.disk) (g.D.Tape.tape c.plan_entry.new.disk) c.plan_entry.result c.in_ok-refuse_held_base.ensures.looks.looks.alone.grown c.plan_entry.ensures.cause
+returns-clause-cause g c = cause_sooner (g.D.Tape.tape c.args.disk.now) (g.D.Tape.tape c.refuse_held_base.new.disk) (g.D.Tape.tape c.plan_entry.new.disk) c.plan_entry.result c.in_ok-refuse_held_base.ensures.cause c.plan_entry.ensures.cause
 
 pub returns-clause-want : goal.returns-clause-want
 returns-clause-want g c = c.plan_entry.ensures.want

@@ -94,7 +94,7 @@ pub returns-in_err-name-clause-want : goal.returns-in_err-name-clause-want
 returns-in_err-name-clause-want g c = λ told. not_wanted (List ℕ) c.in_err-name.field-0.0 c.from_residual.result c.from_residual.ensures.1 (c.in_err-name.ensures.want told)
 
 pub returns-clause-cause : goal.returns-clause-cause
-returns-clause-cause g c = cause_sooner (g.D.Tape.tape c.args.disk.now) (g.D.Tape.tape c.name_given.new.disk) (g.D.Tape.tape c.plan_entry.new.disk) c.plan_entry.result c.in_ok-name.ensures.looks.looks.alone.grown c.plan_entry.ensures.cause
+returns-clause-cause g c = cause_sooner (g.D.Tape.tape c.args.disk.now) (g.D.Tape.tape c.name_given.new.disk) (g.D.Tape.tape c.plan_entry.new.disk) c.plan_entry.result c.in_ok-name.ensures.cause c.plan_entry.ensures.cause
 
 pub returns-clause-want : goal.returns-clause-want
 returns-clause-want g c = c.plan_entry.ensures.want

@@ -163,7 +163,7 @@ returns-in_err-done_text-clause-unwritten g c =
     λ told. never_refused (Unit {0}) (λ x. added (g.D.Tape.tape c.args.disk.now) (g.D.Tape.tape c.find_measured.new.disk) ≡ []) stop.Memory c.from_residual-in_err-done_text.result c.from_residual-in_err-done_text.ensures.1 tt
 
 pub returns-in_err-done_text-clause-cause : goal.returns-in_err-done_text-clause-cause
-returns-in_err-done_text-clause-cause g c = cause_passed (g.D.Tape.tape c.args.disk.now) (g.D.Tape.tape c.find_measured.new.disk) stop.Memory c.from_residual-in_err-done_text.result c.from_residual-in_err-done_text.ensures.1 tt
+returns-in_err-done_text-clause-cause g c = cause_passed (g.D.Tape.tape c.args.disk.now) (g.D.Tape.tape c.find_measured.new.disk) stop.Memory c.from_residual-in_err-done_text.result c.from_residual-in_err-done_text.ensures.1 c.in_ok-found.ensures.cause
 
 pub returns-in_err-done_text-clause-alone : goal.returns-in_err-done_text-clause-alone
 returns-in_err-done_text-clause-alone g c = c.in_ok-found.ensures.looks.looks.alone
@@ -174,26 +174,26 @@ returns-in_err-write_patch-clause-unwritten g c =
 
 pub returns-in_err-write_patch-clause-cause : goal.returns-in_err-write_patch-clause-cause
 returns-in_err-write_patch-clause-cause g c =
-    cause_after (g.D.Tape.tape c.args.disk.now) (g.D.Tape.tape c.find_measured.new.disk) (g.D.Tape.tape c.write_patch.new.disk) c.in_err-write_patch.field-0.0 c.from_residual-in_err-write_patch.result c.from_residual-in_err-write_patch.ensures.1 c.in_ok-found.ensures.looks.looks.alone.grown c.in_err-write_patch.ensures.cause
+    cause_after (g.D.Tape.tape c.args.disk.now) (g.D.Tape.tape c.find_measured.new.disk) (g.D.Tape.tape c.write_patch.new.disk) c.in_err-write_patch.field-0.0 c.from_residual-in_err-write_patch.result c.from_residual-in_err-write_patch.ensures.1 c.in_ok-found.ensures.cause c.in_err-write_patch.ensures.cause
 
 pub returns-in_err-done_text-2-clause-unwritten : goal.returns-in_err-done_text-2-clause-unwritten
 returns-in_err-done_text-2-clause-unwritten g c =
     λ told. never_refused (Unit {0}) (λ x. added (g.D.Tape.tape c.args.disk.now) (g.D.Tape.tape c.write_patch.new.disk) ≡ []) stop.Memory c.from_residual-in_err-done_text-2.result c.from_residual-in_err-done_text-2.ensures.1 tt
 
 pub returns-in_err-done_text-2-clause-cause : goal.returns-in_err-done_text-2-clause-cause
-returns-in_err-done_text-2-clause-cause g c = cause_passed (g.D.Tape.tape c.args.disk.now) (g.D.Tape.tape c.write_patch.new.disk) stop.Memory c.from_residual-in_err-done_text-2.result c.from_residual-in_err-done_text-2.ensures.1 tt
+returns-in_err-done_text-2-clause-cause g c = cause_passed (g.D.Tape.tape c.args.disk.now) (g.D.Tape.tape c.write_patch.new.disk) stop.Memory c.from_residual-in_err-done_text-2.result c.from_residual-in_err-done_text-2.ensures.1 (c.in_ok-write_patch.ensures.cause ∙ c.in_ok-found.ensures.cause)
 
 pub returns-clause-unwritten : goal.returns-clause-unwritten
 returns-clause-unwritten g c = λ told. tt
 
 pub returns-clause-cause : goal.returns-clause-cause
-returns-clause-cause g c = tt
+returns-clause-cause g c = c.in_ok-write_patch.ensures.cause ∙ c.in_ok-found.ensures.cause
 
 pub returns-then-is_empty-clause-unwritten : goal.returns-then-is_empty-clause-unwritten
 returns-then-is_empty-clause-unwritten g c = λ told. tt
 
 pub returns-then-is_empty-clause-cause : goal.returns-then-is_empty-clause-cause
-returns-then-is_empty-clause-cause g c = tt
+returns-then-is_empty-clause-cause g c = c.in_ok-found.ensures.cause
 
 pub returns-then-is_empty-clause-alone : goal.returns-then-is_empty-clause-alone
 returns-then-is_empty-clause-alone g c = c.in_ok-found.ensures.looks.looks.alone
@@ -229,7 +229,7 @@ pub returns-then-length-offset-clause-unwritten : goal.returns-then-length-offse
 returns-then-length-offset-clause-unwritten g c = λ told. if_refused (added (g.D.Tape.tape c.args.disk.now) (g.D.Tape.tape c.find_measured.new.disk) ≡ []) c.refused.result (c.find_measured.ensures.looks.looks.silent told)
 
 pub returns-then-length-offset-clause-cause : goal.returns-then-length-offset-clause-cause
-returns-then-length-offset-clause-cause g c = subst (HasCause cause_of_stop (g.D.Tape.tape c.args.disk.now) (g.D.Tape.tape c.find_measured.new.disk)) (sym c.refused.ensures) tt
+returns-then-length-offset-clause-cause g c = subst (HasCause cause_of_stop (g.D.Tape.tape c.args.disk.now) (g.D.Tape.tape c.find_measured.new.disk)) (sym c.refused.ensures) c.in_ok-found.ensures.cause
 
 pub returns-then-length-offset-clause-alone : goal.returns-then-length-offset-clause-alone
 returns-then-length-offset-clause-alone g c = c.find_measured.ensures.looks.looks.alone

@@ -92,7 +92,7 @@ pub returns-clause-unrefused : goal.returns-clause-unrefused
 returns-clause-unrefused g c = tt
 
 pub returns-clause-cause : goal.returns-clause-cause
-returns-clause-cause g c = tt
+returns-clause-cause g c = subst (λ (r : Result (Unit {0}) Stop). HasCause cause_of_stop (g.D.Tape.tape c.args.disk.now) (g.D.Tape.tape c.put-done.new.disk) r) (sym c.in_ok-written.ensures) (put_cause (g.D.Tape.tape c.args.disk.now) (g.D.Tape.tape c.put-done.new.disk) c.args.file.now c.put-done.result c.put-done.ensures.cause)
 
 pub returns-clause-works : goal.returns-clause-works
 returns-clause-works g c = let e = c.put-done.ensures in record { shape = refl; sized = ap length e.table; moment = refl; level = refl; memory = refl; need = refl; refused = e.refused }

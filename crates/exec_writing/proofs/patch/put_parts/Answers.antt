@@ -1,4 +1,4 @@
-use Rattle.std.proofs.Common.{◌≡◌, ◌∙◌, ◌+◌, ◌-◌, ◌%◌, ◌∷◌, ℕ, List, [], Ok, Err, Result, length, length-drop, min, take, drop, ap, arith, subst, sym}
+use Rattle.std.proofs.Common.{◌≡◌, ◌∙◌, ◌+◌, ◌-◌, ◌%◌, ◌∷◌, ℕ, List, [], Ok, Err, Result, length, length-drop, min, take, drop, ap, arith, subst, sym, refl}
 use Rattle.disk_records.proofs.Growing.{alone_here, alone_twice}
 use Rattle.disk_records.specs.Tapes.{pack}
 use Rattle.pack_model.specs.operations.Step.Operation.{put}
@@ -16,6 +16,7 @@ pub loop-done-init : goal.loop-done-init
 loop-done-init g c = record {
   within = omega arith;
   alone = alone_here (g.D.Tape.tape c.args.disk.now);
+  unfailed = refl;
   works = works_here c.args.session.now;
   puts = λ told may. none_put (g.D.Tape.tape c.args.disk.now) (kept c.args.session.now) c.args.file.now c.args.offset c.args.bytes.now;
 }
@@ -42,6 +43,7 @@ loop-done-preserved g c =
     record {
       within = omega (arith, many, left, before);
       alone = alone_twice so.alone e.alone;
+      unfailed = e.cause ∙ so.unfailed;
       works = works_twice so.works e.works;
       puts = λ told may. puts_more a b d (kept c.args.session.now) two three file c.args.offset bytes done may (so.puts told may) c.loop-done-test.true n many
           (subst (λ (l : List ℕ). MayPatchFile (pack b) file at l → StepsOn b d two three (put f at (take (512 - at % 512) l) ∷ []) [] (f ∷ []) (Ok n)) tail (e.steps told));
@@ -75,7 +77,7 @@ pub returns-in_err-done-clause-unrefused : goal.returns-in_err-done-clause-unref
 returns-in_err-done-clause-unrefused g c = never_refused ℕ (λ r. ⊥) c.in_err-done.field-0.0 c.from_residual.result c.from_residual.ensures.1 c.in_err-done.ensures.unrefused
 
 pub returns-in_err-done-clause-cause : goal.returns-in_err-done-clause-cause
-returns-in_err-done-clause-cause g c = cause_after (g.D.Tape.tape c.args.disk.now) (g.D.Tape.tape c.loop-done.disk) (g.D.Tape.tape c.put_part.new.disk) c.in_err-done.field-0.0 c.from_residual.result c.from_residual.ensures.1 c.loop-done.invariant.alone.grown c.in_err-done.ensures.cause
+returns-in_err-done-clause-cause g c = cause_after (g.D.Tape.tape c.args.disk.now) (g.D.Tape.tape c.loop-done.disk) (g.D.Tape.tape c.put_part.new.disk) c.in_err-done.field-0.0 c.from_residual.result c.from_residual.ensures.1 c.loop-done.invariant.unfailed c.in_err-done.ensures.cause
 
 pub returns-in_err-done-clause-works : goal.returns-in_err-done-clause-works
 returns-in_err-done-clause-works g c = works_twice c.loop-done.invariant.works c.in_err-done.ensures.works
@@ -84,7 +86,7 @@ pub returns-clause-unrefused : goal.returns-clause-unrefused
 returns-clause-unrefused g c = tt
 
 pub returns-clause-cause : goal.returns-clause-cause
-returns-clause-cause g c = tt
+returns-clause-cause g c = c.loop-done.invariant.unfailed
 
 pub returns-clause-works : goal.returns-clause-works
 returns-clause-works g c = c.loop-done.invariant.works

@@ -1,4 +1,5 @@
 use Rattle.std.proofs.Common.{◌≤◌, ◌-◌, IsTrue, length}
+use Rattle.disk_records.specs.Causes.{Unfailed}
 use Rattle.disk_records.specs.Tapes.{DiskAlone, pack}
 use Rattle.exec_session.specs.Meant.{kept}
 use Rattle.exec_session.specs.Asked.{Works}
@@ -13,6 +14,7 @@ invariant-loop-done g l =
     record {
       within : l.done ≤ length l.bytes;
       alone : DiskAlone old now;
+      unfailed : Unfailed old now;
       works : Works l.fn.session l.session;
       puts : IsTrue g.D.Tape.told → MayPatchFile (pack old) l.file l.offset l.bytes → PutSoFar old now (kept l.fn.session) (kept l.session) l.file l.offset l.bytes l.done;
     }

@@ -45,7 +45,7 @@ pub returns-clause-unrefused : goal.returns-clause-unrefused
 returns-clause-unrefused g c = c.put_parts.ensures.unrefused
 
 pub returns-clause-cause : goal.returns-clause-cause
-returns-clause-cause g c = cause_sooner (g.D.Tape.tape c.args.disk.now) (g.D.Tape.tape c.open_mark.new.disk) (g.D.Tape.tape c.put_parts.new.disk) c.put_parts.result c.in_ok-open_mark.ensures.alone.grown c.put_parts.ensures.cause
+returns-clause-cause g c = cause_sooner (g.D.Tape.tape c.args.disk.now) (g.D.Tape.tape c.open_mark.new.disk) (g.D.Tape.tape c.put_parts.new.disk) c.put_parts.result c.in_ok-open_mark.ensures.cause c.put_parts.ensures.cause
 
 pub returns-clause-works : goal.returns-clause-works
 returns-clause-works g c = works_twice c.in_ok-open_mark.ensures.works c.put_parts.ensures.works

@@ -136,14 +136,14 @@ returns-in_err-refuse_kinds-clause-placed g c = λ told sound. ok_of_error (λ s
 
 pub returns-in_err-refuse_kinds-clause-cause : goal.returns-in_err-refuse_kinds-clause-cause
 returns-in_err-refuse_kinds-clause-cause g c =
-    cause_refused (g.D.Tape.tape c.args.disk.now) (g.D.Tape.tape c.find_dir.new.disk) c.in_err-refuse_kinds.field-0.0 (refused_by (kinds_refusal c.args.file c.in_ok-dir.dir.fid) c.in_err-refuse_kinds.field-0.0 c.in_err-refuse_kinds.ensures).refusal c.from_residual-in_err-refuse_kinds.result c.from_residual-in_err-refuse_kinds.ensures.1 (refused_by (kinds_refusal c.args.file c.in_ok-dir.dir.fid) c.in_err-refuse_kinds.field-0.0 c.in_err-refuse_kinds.ensures).stop_is
+    cause_refused (g.D.Tape.tape c.args.disk.now) (g.D.Tape.tape c.find_dir.new.disk) c.in_err-refuse_kinds.field-0.0 (refused_by (kinds_refusal c.args.file c.in_ok-dir.dir.fid) c.in_err-refuse_kinds.field-0.0 c.in_err-refuse_kinds.ensures).refusal c.from_residual-in_err-refuse_kinds.result c.from_residual-in_err-refuse_kinds.ensures.1 (refused_by (kinds_refusal c.args.file c.in_ok-dir.dir.fid) c.in_err-refuse_kinds.field-0.0 c.in_err-refuse_kinds.ensures).stop_is c.in_ok-dir.ensures.cause
 
 pub returns-in_err-refuse_kinds-clause-want : goal.returns-in_err-refuse_kinds-clause-want
 returns-in_err-refuse_kinds-clause-want g c =
     λ told. not_wanted_refused c.in_err-refuse_kinds.field-0.0 (refused_by (kinds_refusal c.args.file c.in_ok-dir.dir.fid) c.in_err-refuse_kinds.field-0.0 c.in_err-refuse_kinds.ensures).refusal c.from_residual-in_err-refuse_kinds.result c.from_residual-in_err-refuse_kinds.ensures.1 (refused_by (kinds_refusal c.args.file c.in_ok-dir.dir.fid) c.in_err-refuse_kinds.field-0.0 c.in_err-refuse_kinds.ensures).stop_is
 
 pub returns-clause-cause : goal.returns-clause-cause
-returns-clause-cause g c = cause_sooner (g.D.Tape.tape c.args.disk.now) (g.D.Tape.tape c.find_dir.new.disk) (g.D.Tape.tape c.plan_named.new.disk) c.plan_named.result c.in_ok-dir.ensures.looks.looks.alone.grown c.plan_named.ensures.cause
+returns-clause-cause g c = cause_sooner (g.D.Tape.tape c.args.disk.now) (g.D.Tape.tape c.find_dir.new.disk) (g.D.Tape.tape c.plan_named.new.disk) c.plan_named.result c.in_ok-dir.ensures.cause c.plan_named.ensures.cause
 
 pub returns-clause-want : goal.returns-clause-want
 returns-clause-want g c = c.plan_named.ensures.want

@@ -124,7 +124,7 @@ returns-in_err-open_mark-clause-works g c = works_twice (works_reserved c.in_ok-
 
 pub returns-in_err-open_mark-clause-cause : goal.returns-in_err-open_mark-clause-cause
 returns-in_err-open_mark-clause-cause g c =
-    cause_after (g.D.Tape.tape c.args.disk.now) (g.D.Tape.tape c.reserve_pages.new.disk) (g.D.Tape.tape c.open_mark.new.disk) c.in_err-open_mark.field-0.0 c.from_residual-in_err-open_mark.result c.from_residual-in_err-open_mark.ensures.1 c.in_ok-fresh.ensures.looks.alone.grown c.in_err-open_mark.ensures.cause
+    cause_after (g.D.Tape.tape c.args.disk.now) (g.D.Tape.tape c.reserve_pages.new.disk) (g.D.Tape.tape c.open_mark.new.disk) c.in_err-open_mark.field-0.0 c.from_residual-in_err-open_mark.result c.from_residual-in_err-open_mark.ensures.1 c.in_ok-fresh.ensures.cause c.in_err-open_mark.ensures.cause
 
 pub returns-clause-unwritten : goal.returns-clause-unwritten
 returns-clause-unwritten g c = λ told. refused_then (λ r. ⊥) (λ r. added (g.D.Tape.tape c.args.disk.now) (g.D.Tape.tape c.rename_entry.new.disk) ≡ []) c.rename_entry.result (λ r none. absurd none) c.rename_entry.ensures.unrefused
@@ -134,4 +134,4 @@ returns-clause-works g c = works_twice (works_twice (works_reserved c.in_ok-fres
 
 pub returns-clause-cause : goal.returns-clause-cause
 returns-clause-cause g c =
-    cause_sooner (g.D.Tape.tape c.args.disk.now) (g.D.Tape.tape c.open_mark.new.disk) (g.D.Tape.tape c.rename_entry.new.disk) c.rename_entry.result (alone_twice c.in_ok-fresh.ensures.looks.alone c.in_ok-open_mark.ensures.alone).grown c.rename_entry.ensures.cause
+    cause_sooner (g.D.Tape.tape c.args.disk.now) (g.D.Tape.tape c.open_mark.new.disk) (g.D.Tape.tape c.rename_entry.new.disk) c.rename_entry.result (c.in_ok-open_mark.ensures.cause ∙ c.in_ok-fresh.ensures.cause) c.rename_entry.ensures.cause

@@ -50,7 +50,7 @@ pub returns-clause-unrefused : goal.returns-clause-unrefused
 returns-clause-unrefused g c = c.enter_file.ensures.unrefused
 
 pub returns-clause-cause : goal.returns-clause-cause
-returns-clause-cause g c = cause_sooner (g.D.Tape.tape c.args.disk.now) (g.D.Tape.tape c.leave_dir.new.disk) (g.D.Tape.tape c.enter_file.new.disk) c.enter_file.result c.in_ok-leave_dir.ensures.alone.grown c.enter_file.ensures.cause
+returns-clause-cause g c = cause_sooner (g.D.Tape.tape c.args.disk.now) (g.D.Tape.tape c.leave_dir.new.disk) (g.D.Tape.tape c.enter_file.new.disk) c.enter_file.result c.in_ok-leave_dir.ensures.cause c.enter_file.ensures.cause
 
 pub returns-clause-works : goal.returns-clause-works
 returns-clause-works g c = works_twice c.in_ok-leave_dir.ensures.works c.enter_file.ensures.works

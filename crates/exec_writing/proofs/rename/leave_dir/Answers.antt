@@ -34,7 +34,7 @@ pub returns-clause-unrefused : goal.returns-clause-unrefused
 returns-clause-unrefused g c = subst (λ (r : Result (Unit {0}) Stop). IfRefused r (λ x. ⊥)) (sym c.entered.ensures) (entered_unrefused c.args.found.now.dir c.leave-left.result)
 
 pub returns-clause-cause : goal.returns-clause-cause
-returns-clause-cause g c = subst (λ (r : Result (Unit {0}) Stop). HasCause cause_of_stop (g.D.Tape.tape c.args.disk.now) (g.D.Tape.tape c.leave-left.new.disk) r) (sym c.entered.ensures) (entered_cause other never never (g.D.Tape.tape c.args.disk.now) (g.D.Tape.tape c.leave-left.new.disk) c.args.found.now.dir c.leave-left.result c.leave-left.ensures.cause)
+returns-clause-cause g c = subst (λ (r : Result (Unit {0}) Stop). HasCause cause_of_stop (g.D.Tape.tape c.args.disk.now) (g.D.Tape.tape c.leave-left.new.disk) r) (sym c.entered.ensures) (entered_cause other never never tt tt tt (g.D.Tape.tape c.args.disk.now) (g.D.Tape.tape c.leave-left.new.disk) c.args.found.now.dir c.leave-left.result c.leave-left.ensures.cause)
 
 pub returns-clause-works : goal.returns-clause-works
 returns-clause-works g c = record { shape = refl; sized = ap length c.leave-left.ensures.table; moment = refl; level = refl; memory = refl; need = refl; refused = c.leave-left.ensures.refused }

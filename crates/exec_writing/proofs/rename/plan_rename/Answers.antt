@@ -23,7 +23,6 @@ use Rattle.exec_session.proofs.Frames.{looks_about_within, cause_after, cause_pa
 use Rattle.exec_writing.proofs.NamedEntries.{failing_more}
 use Rattle.exec_writing.proofs.NewPlaces.{names_place, names_source, names_source_dirs}
 use Rattle.exec_writing.proofs.Refusing.{source_absent, source_found}
-use Rattle.disk_records.proofs.Growing.{alone_twice}
 use Rattle.exec_session.proofs.Causing.{not_wanted}
 use Rattle.exec_session.proofs.Parts.{ok_of_error}
 use Rattle.exec_writing.proofs.rename.plan_rename.Goals as goal
@@ -134,7 +133,7 @@ returns-in_err-entry-clause-planned g c = λ told sound. ok_of_error (λ s. s �
 
 pub returns-in_err-entry-clause-cause : goal.returns-in_err-entry-clause-cause
 returns-in_err-entry-clause-cause g c =
-    cause_after (g.D.Tape.tape c.args.disk.now) (g.D.Tape.tape c.find_path.new.disk) (g.D.Tape.tape c.plan_place.new.disk) c.in_err-entry.field-0.0 c.from_residual-in_err-entry.result c.from_residual-in_err-entry.ensures.1 c.in_ok-found.ensures.looks.looks.alone.grown c.in_err-entry.ensures.cause
+    cause_after (g.D.Tape.tape c.args.disk.now) (g.D.Tape.tape c.find_path.new.disk) (g.D.Tape.tape c.plan_place.new.disk) c.in_err-entry.field-0.0 c.from_residual-in_err-entry.result c.from_residual-in_err-entry.ensures.1 c.in_ok-found.ensures.cause c.in_err-entry.ensures.cause
 
 pub returns-in_err-entry-clause-want : goal.returns-in_err-entry-clause-want
 returns-in_err-entry-clause-want g c = λ told. not_wanted NewEntry c.in_err-entry.field-0.0 c.from_residual-in_err-entry.result c.from_residual-in_err-entry.ensures.1 (c.in_err-entry.ensures.want told)
@@ -144,13 +143,13 @@ returns-in_err-leader_at-clause-planned g c = λ told sound. ok_of_error (λ s. 
 
 pub returns-in_err-leader_at-clause-cause : goal.returns-in_err-leader_at-clause-cause
 returns-in_err-leader_at-clause-cause g c =
-    cause_after (g.D.Tape.tape c.args.disk.now) (g.D.Tape.tape c.plan_place.new.disk) (g.D.Tape.tape c.leader_of.new.disk) c.in_err-leader_at.field-0.0 c.from_residual-in_err-leader_at.result c.from_residual-in_err-leader_at.ensures.1 (alone_twice c.in_ok-found.ensures.looks.looks.alone c.in_ok-entry.ensures.looks.looks.alone).grown c.in_err-leader_at.ensures.cause
+    cause_after (g.D.Tape.tape c.args.disk.now) (g.D.Tape.tape c.plan_place.new.disk) (g.D.Tape.tape c.leader_of.new.disk) c.in_err-leader_at.field-0.0 c.from_residual-in_err-leader_at.result c.from_residual-in_err-leader_at.ensures.1 (c.in_ok-entry.ensures.cause ∙ c.in_ok-found.ensures.cause) c.in_err-leader_at.ensures.cause
 
 pub returns-in_err-leader_at-clause-want : goal.returns-in_err-leader_at-clause-want
 returns-in_err-leader_at-clause-want g c = λ told. not_wanted ℕ c.in_err-leader_at.field-0.0 c.from_residual-in_err-leader_at.result c.from_residual-in_err-leader_at.ensures.1 (c.in_err-leader_at.ensures.want told)
 
 pub returns-clause-cause : goal.returns-clause-cause
-returns-clause-cause g c = tt
+returns-clause-cause g c = c.in_ok-leader_at.ensures.cause ∙ c.in_ok-entry.ensures.cause ∙ c.in_ok-found.ensures.cause
 
 pub returns-clause-refused : goal.returns-clause-refused
 returns-clause-refused g c = λ told sound. tt

@@ -75,7 +75,7 @@ returns-in_err-title_file-clause-unrefused g c = never_refused (Unit {0}) (λ r.
 
 pub returns-in_err-title_file-clause-cause : goal.returns-in_err-title_file-clause-cause
 returns-in_err-title_file-clause-cause g c =
-    cause_after (g.D.Tape.tape c.args.disk.now) (g.D.Tape.tape c.widen_first.new.disk) (g.D.Tape.tape c.title_file.new.disk) c.in_err-title_file.field-0.0 c.from_residual-in_err-title_file.result c.from_residual-in_err-title_file.ensures.1 c.in_ok-widen_first.ensures.alone.grown c.in_err-title_file.ensures.cause
+    cause_after (g.D.Tape.tape c.args.disk.now) (g.D.Tape.tape c.widen_first.new.disk) (g.D.Tape.tape c.title_file.new.disk) c.in_err-title_file.field-0.0 c.from_residual-in_err-title_file.result c.from_residual-in_err-title_file.ensures.1 c.in_ok-widen_first.ensures.cause c.in_err-title_file.ensures.cause
 
 pub returns-in_err-title_file-clause-works : goal.returns-in_err-title_file-clause-works
 returns-in_err-title_file-clause-works g c = works_twice c.in_ok-widen_first.ensures.works c.in_err-title_file.ensures.works
@@ -88,7 +88,7 @@ returns-clause-unrefused g c = c.change_entry.ensures.unrefused
 
 pub returns-clause-cause : goal.returns-clause-cause
 returns-clause-cause g c =
-    cause_sooner (g.D.Tape.tape c.args.disk.now) (g.D.Tape.tape c.title_file.new.disk) (g.D.Tape.tape c.change_entry.new.disk) c.change_entry.result (alone_twice c.in_ok-widen_first.ensures.alone c.in_ok-title_file.ensures.alone).grown c.change_entry.ensures.cause
+    cause_sooner (g.D.Tape.tape c.args.disk.now) (g.D.Tape.tape c.title_file.new.disk) (g.D.Tape.tape c.change_entry.new.disk) c.change_entry.result (c.in_ok-title_file.ensures.cause ∙ c.in_ok-widen_first.ensures.cause) c.change_entry.ensures.cause
 
 pub returns-clause-works : goal.returns-clause-works
 returns-clause-works g c = works_twice (works_twice c.in_ok-widen_first.ensures.works c.in_ok-title_file.ensures.works) c.change_entry.ensures.works

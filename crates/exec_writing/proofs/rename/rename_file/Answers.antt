@@ -1,4 +1,4 @@
-use Rattle.std.proofs.Common.{◌≡◌, subst, sym, []}
+use Rattle.std.proofs.Common.{◌≡◌, subst, sym, [], ◌∙◌}
 use Rattle.disk_records.proofs.Growing.{alone_twice, silent_twice}
 use Rattle.disk_records.proofs.Looking.{looks_pack}
 use Rattle.disk_records.specs.Tapes.{Taped, pack, added}
@@ -135,17 +135,17 @@ returns-in_err-apply_rename-clause-unwritten g c = λ told. refused_of_stop (Uni
 
 pub returns-in_err-apply_rename-clause-cause : goal.returns-in_err-apply_rename-clause-cause
 returns-in_err-apply_rename-clause-cause g c =
-    cause_after (g.D.Tape.tape c.args.disk.now) (g.D.Tape.tape c.plan_rename.new.disk) (g.D.Tape.tape c.apply_rename.new.disk) c.in_err-apply_rename.field-0.0 c.from_residual-in_err-apply_rename.result c.from_residual-in_err-apply_rename.ensures.1 c.in_ok-plan.ensures.looks.looks.alone.grown c.in_err-apply_rename.ensures.cause
+    cause_after (g.D.Tape.tape c.args.disk.now) (g.D.Tape.tape c.plan_rename.new.disk) (g.D.Tape.tape c.apply_rename.new.disk) c.in_err-apply_rename.field-0.0 c.from_residual-in_err-apply_rename.result c.from_residual-in_err-apply_rename.ensures.1 c.in_ok-plan.ensures.cause c.in_err-apply_rename.ensures.cause
 
 pub returns-in_err-done_text-clause-unwritten : goal.returns-in_err-done_text-clause-unwritten
 returns-in_err-done_text-clause-unwritten g c =
     λ told. never_refused (Unit {0}) (λ x. added (g.D.Tape.tape c.args.disk.now) (g.D.Tape.tape c.apply_rename.new.disk) ≡ []) stop.Memory c.from_residual-in_err-done_text.result c.from_residual-in_err-done_text.ensures.1 tt
 
 pub returns-in_err-done_text-clause-cause : goal.returns-in_err-done_text-clause-cause
-returns-in_err-done_text-clause-cause g c = cause_passed (g.D.Tape.tape c.args.disk.now) (g.D.Tape.tape c.apply_rename.new.disk) stop.Memory c.from_residual-in_err-done_text.result c.from_residual-in_err-done_text.ensures.1 tt
+returns-in_err-done_text-clause-cause g c = cause_passed (g.D.Tape.tape c.args.disk.now) (g.D.Tape.tape c.apply_rename.new.disk) stop.Memory c.from_residual-in_err-done_text.result c.from_residual-in_err-done_text.ensures.1 (c.in_ok-apply_rename.ensures.cause ∙ c.in_ok-plan.ensures.cause)
 
 pub returns-clause-unwritten : goal.returns-clause-unwritten
 returns-clause-unwritten g c = λ told. tt
 
 pub returns-clause-cause : goal.returns-clause-cause
-returns-clause-cause g c = tt
+returns-clause-cause g c = c.in_ok-apply_rename.ensures.cause ∙ c.in_ok-plan.ensures.cause

@@ -61,7 +61,7 @@ pub returns-in_err-require_serial-clause-cause : goal.returns-in_err-require_ser
 returns-in_err-require_serial-clause-cause g c =
     let t = g.D.Tape.tape c.args.disk.now in
     let last = c.args.session.now.descriptor.last in
-    cause_refused t t c.in_err-require_serial.field-0.0 (refusal.SerialsSpent last) c.from_residual.result c.from_residual.ensures.1 (by_test (nat_le most_serials last) c.in_err-require_serial.field-0.0 (refusal.SerialsSpent last) c.in_err-require_serial.ensures).1
+    cause_refused t t c.in_err-require_serial.field-0.0 (refusal.SerialsSpent last) c.from_residual.result c.from_residual.ensures.1 (by_test (nat_le most_serials last) c.in_err-require_serial.field-0.0 (refusal.SerialsSpent last) c.in_err-require_serial.ensures).1 refl
 
 pub returns-in_err-require_serial-clause-same : goal.returns-in_err-require_serial-clause-same
 returns-in_err-require_serial-clause-same g c = refl

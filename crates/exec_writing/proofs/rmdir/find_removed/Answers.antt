@@ -86,18 +86,18 @@ returns-in_err-found-clause-cause g c = cause_passed (g.D.Tape.tape c.args.disk.
 
 pub returns-in_err-require_directory-clause-cause : goal.returns-in_err-require_directory-clause-cause
 returns-in_err-require_directory-clause-cause g c =
-    cause_refused (g.D.Tape.tape c.args.disk.now) (g.D.Tape.tape c.find_path.new.disk) c.in_err-require_directory.field-0.0 refusal.NotADirectory c.from_residual-in_err-require_directory.result c.from_residual-in_err-require_directory.ensures.1 (by_test (not (is_directory c.in_ok-found.found.file.fid)) c.in_err-require_directory.field-0.0 refusal.NotADirectory c.in_err-require_directory.ensures).1
+    cause_refused (g.D.Tape.tape c.args.disk.now) (g.D.Tape.tape c.find_path.new.disk) c.in_err-require_directory.field-0.0 refusal.NotADirectory c.from_residual-in_err-require_directory.result c.from_residual-in_err-require_directory.ensures.1 (by_test (not (is_directory c.in_ok-found.found.file.fid)) c.in_err-require_directory.field-0.0 refusal.NotADirectory c.in_err-require_directory.ensures).1 c.in_ok-found.ensures.cause
 
 pub returns-in_err-refuse_system-clause-cause : goal.returns-in_err-refuse_system-clause-cause
 returns-in_err-refuse_system-clause-cause g c =
-    cause_refused (g.D.Tape.tape c.args.disk.now) (g.D.Tape.tape c.find_path.new.disk) c.in_err-refuse_system.field-0.0 refusal.SystemFile c.from_residual-in_err-refuse_system.result c.from_residual-in_err-refuse_system.ensures.1 (by_test (is_system c.in_ok-found.found.file.fid) c.in_err-refuse_system.field-0.0 refusal.SystemFile c.in_err-refuse_system.ensures).1
+    cause_refused (g.D.Tape.tape c.args.disk.now) (g.D.Tape.tape c.find_path.new.disk) c.in_err-refuse_system.field-0.0 refusal.SystemFile c.from_residual-in_err-refuse_system.result c.from_residual-in_err-refuse_system.ensures.1 (by_test (is_system c.in_ok-found.found.file.fid) c.in_err-refuse_system.field-0.0 refusal.SystemFile c.in_err-refuse_system.ensures).1 c.in_ok-found.ensures.cause
 
 pub returns-in_err-refuse_entries-clause-cause : goal.returns-in_err-refuse_entries-clause-cause
 returns-in_err-refuse_entries-clause-cause g c =
-    cause_after (g.D.Tape.tape c.args.disk.now) (g.D.Tape.tape c.find_path.new.disk) (g.D.Tape.tape c.refuse_entries.new.disk) c.in_err-refuse_entries.field-0.0 c.from_residual-in_err-refuse_entries.result c.from_residual-in_err-refuse_entries.ensures.1 c.in_ok-found.ensures.looks.looks.alone.grown c.in_err-refuse_entries.ensures.cause
+    cause_after (g.D.Tape.tape c.args.disk.now) (g.D.Tape.tape c.find_path.new.disk) (g.D.Tape.tape c.refuse_entries.new.disk) c.in_err-refuse_entries.field-0.0 c.from_residual-in_err-refuse_entries.result c.from_residual-in_err-refuse_entries.ensures.1 c.in_ok-found.ensures.cause c.in_err-refuse_entries.ensures.cause
 
 pub returns-clause-cause : goal.returns-clause-cause
-returns-clause-cause g c = tt
+returns-clause-cause g c = c.in_ok-refuse_entries.ensures.cause ∙ c.in_ok-found.ensures.cause
 
 pub returns-in_err-found-clause-looks : goal.returns-in_err-found-clause-looks
 returns-in_err-found-clause-looks g c = looks_about_within (65588 * 196608) (omega arith) c.in_err-found.ensures.looks

@@ -38,7 +38,7 @@ returns-in_err-slots-clause-cause g c =
     cause_passed a b (stop_of_list c.in_err-slots.field-0.0) c.from_residual.result c.from_residual.ensures.1 (list_cause a b c.in_err-slots.field-0.0 c.in_err-slots.ensures.cause)
 
 pub returns-then-has_entry-clause-cause : goal.returns-then-has_entry-clause-cause
-returns-then-has_entry-clause-cause g c = subst (HasCause cause_of_stop (g.D.Tape.tape c.args.disk.now) (g.D.Tape.tape c.list.new.disk)) (sym c.refused.ensures) tt
+returns-then-has_entry-clause-cause g c = subst (HasCause cause_of_stop (g.D.Tape.tape c.args.disk.now) (g.D.Tape.tape c.list.new.disk)) (sym c.refused.ensures) c.in_ok-slots.ensures.cause
 
 pub returns-then-has_entry-clause-misled : goal.returns-then-has_entry-clause-misled
 returns-then-has_entry-clause-misled g c = λ told there. subst (λ r. IfHint r (MisledBy (pack (g.D.Tape.tape c.args.disk.now)) [] c.args.dir.now.fid)) (sym c.refused.ensures) tt
@@ -50,7 +50,7 @@ pub returns-clause-misled : goal.returns-clause-misled
 returns-clause-misled g c = λ told there. tt
 
 pub returns-clause-cause : goal.returns-clause-cause
-returns-clause-cause g c = tt
+returns-clause-cause g c = c.in_ok-slots.ensures.cause
 
 pub returns-then-has_entry-clause-empty : goal.returns-then-has_entry-clause-empty
 returns-then-has_entry-clause-empty g c = λ told there. subst (λ r. OnOk r (HasEntries (pack (g.D.Tape.tape c.args.disk.now)) c.args.dir.now.fid false)) (sym c.refused.ensures) tt

@@ -46,7 +46,7 @@ pub returns-clause-unwritten : goal.returns-clause-unwritten
 returns-clause-unwritten g c = λ told. refuses_none (λ r. added (g.D.Tape.tape c.args.disk.now) (g.D.Tape.tape c.drop_line.new.disk) ≡ []) c.drop_line.result c.drop_line.ensures.unrefused
 
 pub returns-clause-cause : goal.returns-clause-cause
-returns-clause-cause g c = cause_sooner (g.D.Tape.tape c.args.disk.now) (g.D.Tape.tape c.find_removed.new.disk) (g.D.Tape.tape c.drop_line.new.disk) c.drop_line.result c.in_ok-found.ensures.looks.looks.alone.grown c.drop_line.ensures.cause
+returns-clause-cause g c = cause_sooner (g.D.Tape.tape c.args.disk.now) (g.D.Tape.tape c.find_removed.new.disk) (g.D.Tape.tape c.drop_line.new.disk) c.drop_line.result c.in_ok-found.ensures.cause c.drop_line.ensures.cause
 
 pub drop_line-requires-clause-shape : goal.drop_line-requires-clause-shape
 drop_line-requires-clause-shape g c =

@@ -70,7 +70,7 @@ pub returns-in_err-free-clause-cause : goal.returns-in_err-free-clause-cause
 returns-in_err-free-clause-cause g c = cause_passed (g.D.Tape.tape c.args.disk.now) (g.D.Tape.tape c.count_free.new.disk) (stop_of_look c.in_err-free.field-0.0) c.from_residual.result c.from_residual.ensures.1 (cause_by_look (g.D.Tape.tape c.args.disk.now) (g.D.Tape.tape c.count_free.new.disk) c.in_err-free.field-0.0 c.in_err-free.ensures.cause)
 
 pub returns-in_err-free_text-clause-cause : goal.returns-in_err-free_text-clause-cause
-returns-in_err-free_text-clause-cause g c = cause_passed (g.D.Tape.tape c.args.disk.now) (g.D.Tape.tape c.count_free.new.disk) stop.Memory c.from_residual-in_err-free_text.result c.from_residual-in_err-free_text.ensures.1 tt
+returns-in_err-free_text-clause-cause g c = cause_passed (g.D.Tape.tape c.args.disk.now) (g.D.Tape.tape c.count_free.new.disk) stop.Memory c.from_residual-in_err-free_text.result c.from_residual-in_err-free_text.ensures.1 c.in_ok-free.ensures.cause
 
 pub returns-clause-cause : goal.returns-clause-cause
-returns-clause-cause g c = tt
+returns-clause-cause g c = c.in_ok-free.ensures.cause

@@ -1,4 +1,4 @@
-use Rattle.std.proofs.Common.{◌*◌, not, [], ◌∷◌, Err, arith, sym, subst}
+use Rattle.std.proofs.Common.{◌*◌, not, [], ◌∷◌, Err, arith, sym, subst, ◌∙◌}
 use Rattle.alto_words.specs.Fid.{is_directory, sys_dir}
 use Rattle.directory.specs.Errors.{IfListMisled}
 use Rattle.dir_slots.specs.Items.{items_of}
@@ -77,7 +77,7 @@ returns-in_err-dir-clause-cause g c = cause_passed (g.D.Tape.tape c.args.disk.no
 
 pub returns-in_err-require_directory-clause-cause : goal.returns-in_err-require_directory-clause-cause
 returns-in_err-require_directory-clause-cause g c =
-    cause_refused (g.D.Tape.tape c.args.disk.now) (g.D.Tape.tape c.find_dir.new.disk) c.in_err-require_directory.field-0.0 refusal.NotADirectory c.from_residual-in_err-require_directory.result c.from_residual-in_err-require_directory.ensures.1 (by_test (not (is_directory c.in_ok-dir.dir.fid)) c.in_err-require_directory.field-0.0 refusal.NotADirectory c.in_err-require_directory.ensures).1
+    cause_refused (g.D.Tape.tape c.args.disk.now) (g.D.Tape.tape c.find_dir.new.disk) c.in_err-require_directory.field-0.0 refusal.NotADirectory c.from_residual-in_err-require_directory.result c.from_residual-in_err-require_directory.ensures.1 (by_test (not (is_directory c.in_ok-dir.dir.fid)) c.in_err-require_directory.field-0.0 refusal.NotADirectory c.in_err-require_directory.ensures).1 c.in_ok-dir.ensures.cause
 
 pub returns-in_err-dir-clause-looks : goal.returns-in_err-dir-clause-looks
 returns-in_err-dir-clause-looks g c = looks_most (65588 * 131072) (omega arith) c.in_err-dir.ensures.looks
@@ -86,4 +86,4 @@ pub returns-in_err-require_directory-clause-looks : goal.returns-in_err-require_
 returns-in_err-require_directory-clause-looks g c = looks_most (65588 * 131072) (omega arith) c.in_ok-dir.ensures.looks
 
 pub returns-clause-cause : goal.returns-clause-cause
-returns-clause-cause g c = tt
+returns-clause-cause g c = c.in_ok-list.ensures.cause ∙ c.in_ok-dir.ensures.cause

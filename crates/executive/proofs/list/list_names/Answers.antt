@@ -67,7 +67,7 @@ pub returns-in_err-slots_text-clause-silent : goal.returns-in_err-slots_text-cla
 returns-in_err-slots_text-clause-silent g c = c.in_ok-slots.ensures.looks.looks.silent
 
 pub returns-in_err-slots_text-clause-cause : goal.returns-in_err-slots_text-clause-cause
-returns-in_err-slots_text-clause-cause g c = cause_passed (g.D.Tape.tape c.args.disk.now) (g.D.Tape.tape c.find_slots.new.disk) stop.Memory c.from_residual-in_err-slots_text.result c.from_residual-in_err-slots_text.ensures.1 tt
+returns-in_err-slots_text-clause-cause g c = cause_passed (g.D.Tape.tape c.args.disk.now) (g.D.Tape.tape c.find_slots.new.disk) stop.Memory c.from_residual-in_err-slots_text.result c.from_residual-in_err-slots_text.ensures.1 c.in_ok-slots.ensures.cause
 
 pub returns-in_err-slots_text-clause-alone : goal.returns-in_err-slots_text-clause-alone
 returns-in_err-slots_text-clause-alone g c = c.in_ok-slots.ensures.looks.looks.alone
@@ -76,7 +76,7 @@ pub returns-clause-silent : goal.returns-clause-silent
 returns-clause-silent g c = c.in_ok-slots.ensures.looks.looks.silent
 
 pub returns-clause-cause : goal.returns-clause-cause
-returns-clause-cause g c = tt
+returns-clause-cause g c = c.in_ok-slots.ensures.cause
 
 pub returns-clause-alone : goal.returns-clause-alone
 returns-clause-alone g c = c.in_ok-slots.ensures.looks.looks.alone

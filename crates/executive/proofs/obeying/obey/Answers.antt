@@ -22,7 +22,7 @@ returns-in-Err-clause-unscavenged g c = λ asks. stopped_unscavenged c.in-Err.st
 pub returns-in-Err-clause-cause : goal.returns-in-Err-clause-cause
 returns-in-Err-clause-cause g c =
     let t = g.D.Tape.tape c.args.disk.now in
-    stop_cause t t c.in-Err.stop (first_of (by_line (as_built c.args.line.now) (world_of (kept c.args.session.now)))) c.stopped.result (sym c.in-Err.is ∙ c.refuse_line.ensures) c.stopped.ensures.reply
+    stop_cause t t c.in-Err.stop (first_of (by_line (as_built c.args.line.now) (world_of (kept c.args.session.now)))) c.stopped.result (sym c.in-Err.is ∙ c.refuse_line.ensures) c.stopped.ensures.reply refl
 
 pub returns-in-Err-clause-unwritten : goal.returns-in-Err-clause-unwritten
 returns-in-Err-clause-unwritten g c = λ told by_model. nothing_added (g.D.Tape.tape c.args.disk.now).events

@@ -21,7 +21,6 @@ use Rattle.executive.specs.Reads.{IsLeaderOf}
 use Rattle.executive.proofs.Contents.{stat_said}
 use Rattle.executive.proofs.Passing.{stops_of, test_refused, touches_dirs, touches_file, unfound, looks_most}
 use Rattle.executive.proofs.Untaken.{stat_absent, stat_found, stat_refused}
-use Rattle.disk_records.proofs.Growing.{alone_twice}
 use Rattle.exec_session.proofs.Causing.{cause_after, cause_passed, cause_refused}
 use Rattle.executive.proofs.stat.find_stat.Goals as goal
 
@@ -94,18 +93,18 @@ returns-in_err-file-clause-cause g c = cause_passed (g.D.Tape.tape c.args.disk.n
 
 pub returns-in_err-refuse_descriptor-clause-cause : goal.returns-in_err-refuse_descriptor-clause-cause
 returns-in_err-refuse_descriptor-clause-cause g c =
-    cause_refused (g.D.Tape.tape c.args.disk.now) (g.D.Tape.tape c.find_target.new.disk) c.in_err-refuse_descriptor.field-0.0 refusal.SystemFile c.from_residual-in_err-refuse_descriptor.result c.from_residual-in_err-refuse_descriptor.ensures.1 (by_test (is_fid c.in_ok-file.file.fid disk_descriptor) c.in_err-refuse_descriptor.field-0.0 refusal.SystemFile c.in_err-refuse_descriptor.ensures).1
+    cause_refused (g.D.Tape.tape c.args.disk.now) (g.D.Tape.tape c.find_target.new.disk) c.in_err-refuse_descriptor.field-0.0 refusal.SystemFile c.from_residual-in_err-refuse_descriptor.result c.from_residual-in_err-refuse_descriptor.ensures.1 (by_test (is_fid c.in_ok-file.file.fid disk_descriptor) c.in_err-refuse_descriptor.field-0.0 refusal.SystemFile c.in_err-refuse_descriptor.ensures).1 c.in_ok-file.ensures.cause
 
 pub returns-in_err-length-clause-cause : goal.returns-in_err-length-clause-cause
 returns-in_err-length-clause-cause g c =
-    cause_after (g.D.Tape.tape c.args.disk.now) (g.D.Tape.tape c.find_target.new.disk) (g.D.Tape.tape c.length_of.new.disk) c.in_err-length.field-0.0 c.from_residual-in_err-length.result c.from_residual-in_err-length.ensures.1 c.in_ok-file.ensures.looks.looks.alone.grown c.in_err-length.ensures.cause
+    cause_after (g.D.Tape.tape c.args.disk.now) (g.D.Tape.tape c.find_target.new.disk) (g.D.Tape.tape c.length_of.new.disk) c.in_err-length.field-0.0 c.from_residual-in_err-length.result c.from_residual-in_err-length.ensures.1 c.in_ok-file.ensures.cause c.in_err-length.ensures.cause
 
 pub returns-in_err-leader-clause-cause : goal.returns-in_err-leader-clause-cause
 returns-in_err-leader-clause-cause g c =
-    cause_after (g.D.Tape.tape c.args.disk.now) (g.D.Tape.tape c.length_of.new.disk) (g.D.Tape.tape c.read_leader.new.disk) c.in_err-leader.field-0.0 c.from_residual-in_err-leader.result c.from_residual-in_err-leader.ensures.1 (alone_twice c.in_ok-file.ensures.looks.looks.alone c.in_ok-length.ensures.looks.looks.alone).grown c.in_err-leader.ensures.cause
+    cause_after (g.D.Tape.tape c.args.disk.now) (g.D.Tape.tape c.length_of.new.disk) (g.D.Tape.tape c.read_leader.new.disk) c.in_err-leader.field-0.0 c.from_residual-in_err-leader.result c.from_residual-in_err-leader.ensures.1 (c.in_ok-length.ensures.cause ∙ c.in_ok-file.ensures.cause) c.in_err-leader.ensures.cause
 
 pub returns-clause-cause : goal.returns-clause-cause
-returns-clause-cause g c = tt
+returns-clause-cause g c = c.in_ok-leader.ensures.cause ∙ c.in_ok-length.ensures.cause ∙ c.in_ok-file.ensures.cause
 
 pub returns-in_err-file-clause-looks : goal.returns-in_err-file-clause-looks
 returns-in_err-file-clause-looks g c = looks_most (65588 * 131074) (omega arith) c.in_err-file.ensures.looks

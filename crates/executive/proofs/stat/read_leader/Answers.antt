@@ -33,7 +33,7 @@ pub returns-clause-misled : goal.returns-clause-misled
 returns-clause-misled g c = λ told from. tt
 
 pub returns-clause-cause : goal.returns-clause-cause
-returns-clause-cause g c = tt
+returns-clause-cause g c = c.in_ok-locate.ensures.cause
 
 pub returns-clause-looks : goal.returns-clause-looks
 returns-clause-looks g c = hints_looked c.args.session.now c.locate.new.hints c.in_ok-locate.ensures.looks c.in_ok-locate.ensures.table c.in_ok-locate.ensures.refused c.in_ok-locate.ensures.handy

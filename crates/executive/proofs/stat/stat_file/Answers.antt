@@ -62,7 +62,7 @@ pub returns-in_err-stat_text-clause-silent : goal.returns-in_err-stat_text-claus
 returns-in_err-stat_text-clause-silent g c = c.in_ok-stat.ensures.looks.looks.silent
 
 pub returns-in_err-stat_text-clause-cause : goal.returns-in_err-stat_text-clause-cause
-returns-in_err-stat_text-clause-cause g c = cause_passed (g.D.Tape.tape c.args.disk.now) (g.D.Tape.tape c.find_stat.new.disk) stop.Memory c.from_residual-in_err-stat_text.result c.from_residual-in_err-stat_text.ensures.1 tt
+returns-in_err-stat_text-clause-cause g c = cause_passed (g.D.Tape.tape c.args.disk.now) (g.D.Tape.tape c.find_stat.new.disk) stop.Memory c.from_residual-in_err-stat_text.result c.from_residual-in_err-stat_text.ensures.1 c.in_ok-stat.ensures.cause
 
 pub returns-in_err-stat_text-clause-alone : goal.returns-in_err-stat_text-clause-alone
 returns-in_err-stat_text-clause-alone g c = c.in_ok-stat.ensures.looks.looks.alone
@@ -71,7 +71,7 @@ pub returns-clause-silent : goal.returns-clause-silent
 returns-clause-silent g c = c.in_ok-stat.ensures.looks.looks.silent
 
 pub returns-clause-cause : goal.returns-clause-cause
-returns-clause-cause g c = tt
+returns-clause-cause g c = c.in_ok-stat.ensures.cause
 
 pub returns-clause-alone : goal.returns-clause-alone
 returns-clause-alone g c = c.in_ok-stat.ensures.looks.looks.alone

@@ -82,7 +82,7 @@ pub returns-in_err-file-clause-cause : goal.returns-in_err-file-clause-cause
 returns-in_err-file-clause-cause g c = cause_passed (g.D.Tape.tape c.args.disk.now) (g.D.Tape.tape c.find_ordinary.new.disk) c.in_err-file.field-0.0 c.from_residual.result c.from_residual.ensures.1 c.in_err-file.ensures.cause
 
 pub returns-clause-cause : goal.returns-clause-cause
-returns-clause-cause g c = cause_sooner (g.D.Tape.tape c.args.disk.now) (g.D.Tape.tape c.find_ordinary.new.disk) (g.D.Tape.tape c.bytes_of.new.disk) c.bytes_of.result c.in_ok-file.ensures.looks.looks.alone.grown c.bytes_of.ensures.cause
+returns-clause-cause g c = cause_sooner (g.D.Tape.tape c.args.disk.now) (g.D.Tape.tape c.find_ordinary.new.disk) (g.D.Tape.tape c.bytes_of.new.disk) c.bytes_of.result c.in_ok-file.ensures.cause c.bytes_of.ensures.cause
 
 pub returns-in_err-file-clause-looks : goal.returns-in_err-file-clause-looks
 returns-in_err-file-clause-looks g c = looks_most (65588 * 139264) (omega arith) c.in_err-file.ensures.looks

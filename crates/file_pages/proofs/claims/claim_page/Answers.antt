@@ -7,6 +7,10 @@ use Rattle.pack_model.specs.operations.Commands.{past_last}
 use Rattle.pack_model.specs.operations.PageWords.{link_to_first, page_value}
 use Rattle.file_pages.proofs.ClaimedWords.{claimed_as, label_ranged}
 use Rattle.file_pages.proofs.FreshWords.{first_of_page, same_label}
+use Rattle.disk_records.specs.Frames.{IsFreeSector}
+use Rattle.disk_records.specs.Tapes.{pack}
+use Rattle.label_check.proofs.Framing.{claim_here, guarded_writes}
+use Rattle.page_seeking.proofs.Erring.{on_ok_map}
 use Rattle.file_pages.proofs.claims.claim_page.Goals as goal
 
 pub claim-requires-clause-label : goal.claim-requires-clause-label
@@ -28,3 +32,11 @@ returns-clause-guarded g c told fits =
     let first = first_of_page c.min-count.result c.args.bytes.now count in
     let value = c.page_value-value.ensures (omega (arith, short, words, count, fits)) ∙ (λ i. page_value (first i) (c.past_last.ensures i)) in
     claimed_as _ _ _ _ label value (c.claim.ensures.guarded told)
+
+pub returns-clause-frame : goal.returns-clause-frame
+returns-clause-frame g c told =
+    let Here = IsFreeSector (pack (g.D.Tape.tape c.args.disk.now)) in
+    guarded_writes Here (c.claim.ensures.guarded told) (λ free. claim_here Here c.args.at free c.label_of-label.result c.page_value-value.result)
+
+pub returns-clause-was_free : goal.returns-clause-was_free
+returns-clause-was_free g c told = on_ok_map c.claim.result (λ done. done.held) (c.claim.ensures.guarded told).ok

@@ -1,9 +1,9 @@
 use Rattle.std.proofs.Common.{All, List, ap, arith, drop, length, min, refl, subst, suc, sym, ℕ, ◌*◌, ◌<◌, ◌∙◌, ◌≡◌}
 use Rattle.std.proofs.lemmas.List.{drop_min}
-use Rattle.std.proofs.lemmas.List.Elements.{All-head, All-tail, All-contains_itself}
-use Rattle.disk_records.proofs.Growing.{alone_here, alone_twice}
+use Rattle.std.proofs.lemmas.List.Elements.{All-cons, All-head, All-tail, All-contains_itself}
+use Rattle.disk_records.proofs.Growing.{alone_here, alone_twice, nothing_added}
 use Rattle.disk_records.specs.Addresses.{pages_of}
-use Rattle.disk_records.specs.Tapes.{pack}
+use Rattle.disk_records.specs.Tapes.{added, pack}
 use Rattle.disk_records.specs.declared.records.Place.TheVariants.{Held}
 use Rattle.disk_records.specs.declared.shape.Shape.{Shape}
 use Rattle.label_check.specs.Guarded.{IsFree}
@@ -14,6 +14,9 @@ use Rattle.file_pages.proofs.ClaimedWords.{claimed_as}
 use Rattle.file_pages.proofs.Erring.{never_misled, caused_later, wrong_at}
 use Rattle.std.specs.Prelude.{Contains}
 use Rattle.disk_records.specs.declared.records.Page.{Page}
+use Rattle.disk_records.proofs.Framing.{free_before, free_by_sector, writes_silent, writes_then}
+use Rattle.disk_records.specs.Frames.{IsFreeSector}
+use Rattle.file_pages.proofs.Framed.{all_of_none}
 use Rattle.file_pages.proofs.claims.claim_pages.Goals as goal
 
 pub loop-at-init : goal.loop-at-init
@@ -21,6 +24,9 @@ loop-at-init g c =
     let a = g.D.Tape.tape c.args.disk.now in
     record {
       alone = alone_here a;
+      unfailed = refl;
+      frame = λ told. writes_silent (IsFreeSector (pack a)) (added a a) (nothing_added a.events);
+      were_free = λ told free. free;
       previous = c.requires.last_place;
       sectors = c.requires.sectors;
       given = All-contains_itself c.args.fresh.now;
@@ -85,7 +91,7 @@ returns-in-Err-clause-misled g c told can =
 
 pub returns-in-Err-clause-cause : goal.returns-in-Err-clause-cause
 returns-in-Err-clause-cause g c =
-    let less = c.loop-at.invariant.alone.grown.disk_faults in
+    let less = c.loop-at.invariant.unfailed in
     caused_later (g.D.Tape.tape c.args.disk.now) (g.D.Tape.tape c.loop-at.disk) (g.D.Tape.tape c.claim_page.new.disk) c.in-Err.error (Held c.in-Some.at.now) c.in-Some.at.now _ c.error_at.result c.error_at.ensures less c.in-Err.ensures.cause
 
 pub returns-in-Err-clause-alone : goal.returns-in-Err-clause-alone
@@ -112,6 +118,9 @@ loop-at-preserved g c =
     let whole = claims_writes (claims_of a.form c.args.fid (suc c.args.last) c.args.last_at c.args.bytes.now c.args.past.now c.args.fresh.now) in
     let numbers = inv.numbers in
     record {
+      unfailed = c.in-Ok.ensures.cause ∙ inv.unfailed;
+      frame = λ told. writes_then IsFreeSector free_by_sector inv.alone.grown c.claim_page.ensures.alone.grown (inv.frame told) (c.claim_page.ensures.frame told);
+      were_free = λ told free. inv.were_free told (subst (All (IsFreeSector (pack a))) (sym rest) (All-cons (IsFreeSector (pack a)) at later (free_before inv.alone.grown (inv.frame told) at (c.in-Ok.ensures.was_free told)) free));
       alone = alone_twice inv.alone c.claim_page.ensures.alone;
       previous = (All-head (IsSector a.form) at later sectors).last;
       sectors = All-tail (IsSector a.form) at later sectors;
@@ -150,3 +159,9 @@ returns-in-Err-clause-given g c =
     let rest = subst (All (Contains c.args.fresh.now)) c.in-Some.ensures.cases.0 c.loop-at.invariant.given in
     wrong_at (Unit {0}) (WasGivenToGrow c.args.fid c.args.fresh.now) c.in-Err.error (Held c.in-Some.at.now) c.in-Some.at.now _ c.error_at.result c.error_at.ensures
     (λ found. record { held = refl; own = ap (λ (p : Page). p.fid) c.page_of_file-in-Err.ensures; given = All-head (Contains c.args.fresh.now) c.in-Some.at.now c.in-Some.later.now rest })
+
+pub returns-in-Err-clause-frame : goal.returns-in-Err-clause-frame
+returns-in-Err-clause-frame g c told = writes_then IsFreeSector free_by_sector c.loop-at.invariant.alone.grown c.claim_page.ensures.alone.grown (c.loop-at.invariant.frame told) (c.claim_page.ensures.frame told)
+
+pub returns-clause-were_free : goal.returns-clause-were_free
+returns-clause-were_free g c told = c.loop-at.invariant.were_free told (all_of_none (IsFreeSector (pack (g.D.Tape.tape c.args.disk.now))) c.loop-at.rest.now c.in_default.ensures.cases)

@@ -1,7 +1,9 @@
 use Rattle.std.proofs.Common.{All, IsTrue, length, suc, ◌*◌, ◌+◌, ◌<◌, ◌≡◌, ◌≤◌}
 use Rattle.std.specs.Prelude.{Contains}
 use Rattle.disk_records.specs.Addresses.{pages_of}
-use Rattle.disk_records.specs.Tapes.{DiskAlone, pack}
+use Rattle.disk_records.specs.Causes.{Unfailed}
+use Rattle.disk_records.specs.Frames.{IsFreeSector, WritesIn}
+use Rattle.disk_records.specs.Tapes.{DiskAlone, added, pack}
 use Rattle.pack_model.specs.operations.Commands.{claims_of, claims_writes}
 use Rattle.file_pages.specs.Growing.{CanClaim, IsSector}
 use Rattle.file_pages.proofs.ClaimRow.{Midway}
@@ -13,6 +15,9 @@ invariant-loop-at g l =
     let b = g.D.Tape.tape l.disk in
     record {
       alone : DiskAlone a b;
+      unfailed : Unfailed a b;
+      frame : IsTrue g.D.Tape.told → WritesIn (IsFreeSector (pack a)) (added a b);
+      were_free : IsTrue g.D.Tape.told → All (IsFreeSector (pack a)) l.rest → All (IsFreeSector (pack a)) l.fresh;
       previous : l.previous < pages_of a.form;
       sectors : All (IsSector a.form) l.rest;
       given : All (Contains l.fresh) l.rest;

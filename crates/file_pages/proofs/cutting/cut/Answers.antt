@@ -1,4 +1,4 @@
-use Rattle.std.proofs.Common.{Bool, List, OnOk, arith, false, refl, subst, ◌≡◌, ◌≤◌, Err, [], ◌⊎◌, ℕ, inl, inr}
+use Rattle.std.proofs.Common.{Bool, List, OnOk, arith, false, refl, subst, ◌≡◌, ◌≤◌, Err, [], ◌⊎◌, ℕ, inl, inr, Some, ap, sym, ◌∙◌}
 use Rattle.disk_records.proofs.Growing.{alone_twice, grown_twice}
 use Rattle.disk_records.proofs.Looking.{looks_pack}
 use Rattle.disk_records.specs.Tapes.{pack, added}
@@ -11,13 +11,16 @@ use Rattle.file_pages.proofs.CommitFirst.{look_before}
 use Rattle.file_pages.proofs.CutFiles.{cut_begun, cut_here, cut_is_at_the_end, cut_is_past, cut_is_within, far_past, fewer_pages, known_read}
 use Rattle.file_pages.proofs.Erring.{memory_too, own_or_found}
 use Rattle.file_pages.proofs.Going.{handy_still, misled_by}
-use Rattle.file_pages.specs.Cutting.{IsRead}
-use Rattle.file_pages.specs.Releasing.{Forgotten}
+use Rattle.file_pages.specs.Cutting.{IsRead, cutting, uncut}
+use Rattle.file_pages.specs.Releasing.{AreAfter, Forgotten, KeepsOrFrees}
 use Rattle.pack_model.specs.operations.Committing.{page_of_byte}
 use Rattle.page_seeking.proofs.TrueLinks.{never_led}
 use Rattle.page_seeking.proofs.Listing.{is_listed}
 use Rattle.page_seeking.specs.Parts.{IsListed}
 use Rattle.file_pages.proofs.Gone.{listed_still, looked_only}
+use Rattle.disk_records.proofs.Framing.{writes_after_look, writes_silent}
+use Rattle.disk_records.specs.Frames.{IsPageOf}
+use Rattle.file_pages.proofs.Freed.{keeps_bits}
 use Rattle.file_pages.proofs.cutting.cut.Goals as goal
 
 pub returns-in-Ok-clause-beyond : goal.returns-in-Ok-clause-beyond
@@ -189,3 +192,67 @@ returns-in-Err-locate-clause-given g c = if_misled_map {T = Unit {0}} (Err c.in-
 
 pub returns-else-info-bytes-2-clause-given : goal.returns-else-info-bytes-2-clause-given
 returns-else-info-bytes-2-clause-given g c = if_misled_map c.end_in_page.result c.end_in_page.ensures.given (own_or_found c.args.file.now)
+
+pub returns-in-Ok-clause-frame : goal.returns-in-Ok-clause-frame
+returns-in-Ok-clause-frame g c told = writes_silent (IsPageOf c.args.file.now.fid (pack (g.D.Tape.tape c.args.disk.now))) (added (g.D.Tape.tape c.args.disk.now) (g.D.Tape.tape c.length.new.disk)) (c.length.ensures.looks.silent told)
+
+pub returns-in-Ok-clause-bits : goal.returns-in-Ok-clause-bits
+returns-in-Ok-clause-bits g c told = keeps_bits (pack (g.D.Tape.tape c.length.new.disk)) c.length.ensures.table
+
+pub returns-in-Err-clause-frame : goal.returns-in-Err-clause-frame
+returns-in-Err-clause-frame g c told = writes_silent (IsPageOf c.args.file.now.fid (pack (g.D.Tape.tape c.args.disk.now))) (added (g.D.Tape.tape c.args.disk.now) (g.D.Tape.tape c.length.new.disk)) (c.length.ensures.looks.silent told)
+
+pub returns-in-Err-clause-bits : goal.returns-in-Err-clause-bits
+returns-in-Err-clause-bits g c told = keeps_bits (pack (g.D.Tape.tape c.length.new.disk)) c.length.ensures.table
+
+pub returns-then-info-bytes-clause-frame : goal.returns-then-info-bytes-clause-frame
+returns-then-info-bytes-clause-frame g c told = writes_silent (IsPageOf c.args.file.now.fid (pack (g.D.Tape.tape c.args.disk.now))) (added (g.D.Tape.tape c.args.disk.now) (g.D.Tape.tape c.locate.new.disk)) (c.locate.ensures.looks.silent told)
+
+pub returns-then-info-bytes-clause-bits : goal.returns-then-info-bytes-clause-bits
+returns-then-info-bytes-clause-bits g c told = keeps_bits (pack (g.D.Tape.tape c.locate.new.disk)) c.locate.ensures.table
+
+pub returns-then-info-bytes-2-clause-frame : goal.returns-then-info-bytes-2-clause-frame
+returns-then-info-bytes-2-clause-frame g c told = writes_silent (IsPageOf c.args.file.now.fid (pack (g.D.Tape.tape c.args.disk.now))) (added (g.D.Tape.tape c.args.disk.now) (g.D.Tape.tape c.locate.new.disk)) (c.locate.ensures.looks.silent told)
+
+pub returns-then-info-bytes-2-clause-bits : goal.returns-then-info-bytes-2-clause-bits
+returns-then-info-bytes-2-clause-bits g c told = keeps_bits (pack (g.D.Tape.tape c.locate.new.disk)) c.locate.ensures.table
+
+pub returns-in-Err-locate-clause-frame : goal.returns-in-Err-locate-clause-frame
+returns-in-Err-locate-clause-frame g c told = writes_silent (IsPageOf c.args.file.now.fid (pack (g.D.Tape.tape c.args.disk.now))) (added (g.D.Tape.tape c.args.disk.now) (g.D.Tape.tape c.locate.new.disk)) (c.locate.ensures.looks.silent told)
+
+pub returns-in-Err-locate-clause-bits : goal.returns-in-Err-locate-clause-bits
+returns-in-Err-locate-clause-bits g c told = keeps_bits (pack (g.D.Tape.tape c.locate.new.disk)) c.locate.ensures.table
+
+pub returns-else-info-bytes-2-clause-frame : goal.returns-else-info-bytes-2-clause-frame
+returns-else-info-bytes-2-clause-frame g c told =
+    let looks = c.locate.ensures.looks in
+    writes_after_look (IsPageOf c.args.file.now.fid) looks.alone.grown c.end_in_page.ensures.alone.grown (looks.silent told) (c.end_in_page.ensures.frame told)
+
+pub returns-else-info-bytes-2-clause-bits : goal.returns-else-info-bytes-2-clause-bits
+returns-else-info-bytes-2-clause-bits g c told = subst (λ (l : List Bool). KeepsOrFrees (pack (g.D.Tape.tape c.end_in_page.new.disk)) l c.end_in_page.new.hints.table) c.locate.ensures.table (c.end_in_page.ensures.bits told)
+
+pub returns-in-Err-clause-cuts : goal.returns-in-Err-clause-cuts
+returns-in-Err-clause-cuts g c later told other left =
+    uncut (record { silent = c.length.ensures.looks.silent told; bits = c.length.ensures.table; tally = refl }) tt (λ memory. c.in-Err.ensures.want told (memory_too ℕ c.in-Err.error memory))
+
+pub returns-then-info-bytes-2-clause-cuts : goal.returns-then-info-bytes-2-clause-cuts
+returns-then-info-bytes-2-clause-cuts g c later told other left =
+    let a = pack (g.D.Tape.tape c.args.disk.now) in
+    let read : IsRead a (page_number c.args.file.now.fid c.in-Some.number) c.in-Ok-locate.at c.in-Ok-locate.info c.locate.new.buf = record { seen = c.in-Ok-locate.ensures.seen; stands = c.in-Ok-locate.ensures.stands told } in
+    let same = c.if-info-bytes-2.true in
+    absurd (other (cut_is_at_the_end a c.args.file.now.fid c.args.length c.in-Some.number c.in-Ok-locate.at c.in-Ok-locate.info left.whole (known_read read) c.in-Some.ensures.some (omega (arith, same))))
+
+pub returns-else-info-bytes-2-clause-cuts : goal.returns-else-info-bytes-2-clause-cuts
+returns-else-info-bytes-2-clause-cuts g c later told other left =
+    let a = g.D.Tape.tape c.args.disk.now in
+    let fid = c.args.file.now.fid in
+    let looks = c.locate.ensures.looks in
+    let at = c.in-Ok-locate.at in
+    let read : IsRead (pack a) (page_number fid c.in-Some.number) at c.in-Ok-locate.info c.locate.new.buf = record { seen = c.in-Ok-locate.ensures.seen; stands = c.in-Ok-locate.ensures.stands told } in
+    let is = c.in-Some.ensures.some in
+    let same = looks_pack looks told in
+    let left_here = subst (λ k. AreAfter (pack a) fid k later) (sym is) left in
+    let writes = c.end_in_page.ensures.cuts (pack a) later told same read left_here in
+    let table = subst (λ (l : List Bool). OnOk c.end_in_page.result (c.end_in_page.new.hints.table ≡ marked false later l)) c.locate.ensures.table (c.end_in_page.ensures.table (pack a) later told same read left_here) in
+    cutting ((c.in-Ok-locate.ensures.stands told).carries ∙ ap (λ k. Some (page_number fid k)) is)
+    (look_before looks.alone.grown c.end_in_page.ensures.alone.grown (looks.silent told) (g.met.D.Disk.counted c.args.disk.now told) (g.met.D.Disk.counted c.locate.new.disk told) writes) table

@@ -11,6 +11,9 @@ use Rattle.disk_records.specs.Tapes.{pack}
 use Rattle.file_pages.proofs.Gone.{none_gone_twice, relabel_loses_none}
 use Rattle.file_pages.specs.Releasing.{ListsNoneGone}
 use Rattle.file_pages.proofs.Erring.{was_found}
+use Rattle.disk_records.proofs.Framing.{page_by_sector, writes_then}
+use Rattle.disk_records.specs.Frames.{IsPageOf}
+use Rattle.file_pages.proofs.Freed.{keeps_bits}
 use Rattle.file_pages.proofs.cutting.end_in_page.Goals as goal
 
 pub shorten-requires-clause-same : goal.shorten-requires-clause-same
@@ -72,3 +75,9 @@ returns-in-Ok-clause-given g c = if_misled_map c.release_rest.result c.release_r
 
 pub returns-in-Err-clause-given : goal.returns-in-Err-clause-given
 returns-in-Err-clause-given g c = if_misled_map {T = Unit {0}} (Err c.in-Err.error) c.in-Err.ensures.held (λ place at wanted found x. inr (was_found c.args.page.fid c.args.at c.args.page refl place at wanted found x))
+
+pub returns-in-Ok-clause-frame : goal.returns-in-Ok-clause-frame
+returns-in-Ok-clause-frame g c told = writes_then (IsPageOf c.args.page.fid) (page_by_sector c.args.page.fid) c.shorten.ensures.alone.grown c.release_rest.ensures.alone.grown (c.shorten.ensures.frame told) (c.release_rest.ensures.frame told)
+
+pub returns-in-Err-clause-bits : goal.returns-in-Err-clause-bits
+returns-in-Err-clause-bits g c told = keeps_bits (pack (g.D.Tape.tape c.shorten.new.disk)) refl

@@ -7,6 +7,8 @@ use Rattle.file_pages.specs.Counting.{counted_after}
 use Rattle.file_pages.proofs.CommitFirst.{commits_done, commits_failed}
 use Rattle.file_pages.specs.Calls.{WasHeld}
 use Rattle.file_pages.proofs.Erring.{wrong_at}
+use Rattle.label_check.proofs.Framing.{guarded_writes, relabel_here}
+use Rattle.disk_records.specs.Frames.{IsPageOf}
 use Rattle.file_pages.proofs.cutting.shorten.Goals as goal
 
 pub returns-in-Ok-clause-commits : goal.returns-in-Ok-clause-commits
@@ -30,3 +32,15 @@ returns-in-Err-clause-commits g c told carries =
 
 pub returns-in-Err-clause-held : goal.returns-in-Err-clause-held
 returns-in-Err-clause-held g c = wrong_at (Unit {0}) (WasHeld c.args.at c.args.page) c.in-Err.error (Held c.args.at) c.args.at c.args.page c.error_at.result c.error_at.ensures (λ found. record { held = refl; address = refl; page_is = refl })
+
+pub returns-in-Ok-clause-frame : goal.returns-in-Ok-clause-frame
+returns-in-Ok-clause-frame g c told =
+    let a = pack (g.D.Tape.tape c.args.disk.now) in
+    let Here = IsPageOf c.args.page.fid a in
+    guarded_writes Here (c.relabel-written.ensures.guarded told) (λ carries. relabel_here Here c.args.at (record { number = c.args.page.number; carries = carries }) c.args.label (sector_at a c.args.at).value)
+
+pub returns-in-Err-clause-frame : goal.returns-in-Err-clause-frame
+returns-in-Err-clause-frame g c told =
+    let a = pack (g.D.Tape.tape c.args.disk.now) in
+    let Here = IsPageOf c.args.page.fid a in
+    guarded_writes Here (c.relabel-written.ensures.guarded told) (λ carries. relabel_here Here c.args.at (record { number = c.args.page.number; carries = carries }) c.args.label (sector_at a c.args.at).value)

@@ -15,6 +15,11 @@ use Rattle.file_pages.proofs.Going.{handy_still, misled_by}
 use Rattle.file_pages.specs.Cutting.{IsRead}
 use Rattle.page_seeking.proofs.TrueLinks.{never_led}
 use Rattle.file_pages.proofs.Gone.{looked_only}
+use Rattle.disk_records.proofs.Framing.{writes_after_look, writes_silent}
+use Rattle.disk_records.specs.Frames.{IsPageOf}
+use Rattle.file_pages.proofs.Freed.{keeps_bits}
+use Rattle.file_pages.specs.Releasing.{KeepsOrFrees}
+use Rattle.file_pages.specs.Dropping.{dropping}
 use Rattle.file_pages.proofs.dropping.drop_file.Goals as goal
 
 pub returns-in-Ok-clause-alone : goal.returns-in-Ok-clause-alone
@@ -98,3 +103,28 @@ returns-in-Ok-clause-given g c = if_misled_map c.drop_pages.result c.drop_pages.
 
 pub returns-in-Err-clause-given : goal.returns-in-Err-clause-given
 returns-in-Err-clause-given g c = if_misled_map {T = Unit {0}} (Err c.in-Err.error) c.in-Err.ensures.hint (λ place at wanted found x. inl x)
+
+pub returns-in-Err-clause-frame : goal.returns-in-Err-clause-frame
+returns-in-Err-clause-frame g c told = writes_silent (IsPageOf c.args.file.now.fid (pack (g.D.Tape.tape c.args.disk.now))) (added (g.D.Tape.tape c.args.disk.now) (g.D.Tape.tape c.locate.new.disk)) (c.locate.ensures.looks.silent told)
+
+pub returns-in-Err-clause-bits : goal.returns-in-Err-clause-bits
+returns-in-Err-clause-bits g c told = keeps_bits (pack (g.D.Tape.tape c.locate.new.disk)) c.locate.ensures.table
+
+pub returns-in-Ok-clause-frame : goal.returns-in-Ok-clause-frame
+returns-in-Ok-clause-frame g c told =
+    let looks = c.locate.ensures.looks in
+    writes_after_look (IsPageOf c.args.file.now.fid) looks.alone.grown c.drop_pages.ensures.alone.grown (looks.silent told) (c.drop_pages.ensures.frame told)
+
+pub returns-in-Ok-clause-bits : goal.returns-in-Ok-clause-bits
+returns-in-Ok-clause-bits g c told = subst (λ (l : List Bool). KeepsOrFrees (pack (g.D.Tape.tape c.drop_pages.new.disk)) l c.drop_pages.new.hints.table) c.locate.ensures.table (c.drop_pages.ensures.bits told)
+
+pub returns-in-Ok-clause-drops : goal.returns-in-Ok-clause-drops
+returns-in-Ok-clause-drops g c pages told left =
+    let a = g.D.Tape.tape c.args.disk.now in
+    let looks = c.locate.ensures.looks in
+    let read : IsRead (pack a) (page_number c.args.file.now.fid 0) c.in-Ok.at c.in-Ok.info c.locate.new.buf = record { seen = c.in-Ok.ensures.seen; stands = c.in-Ok.ensures.stands told } in
+    let same = looks_pack looks told in
+    let writes = c.drop_pages.ensures.drops (pack a) pages told same read left in
+    let table = subst (λ (l : List Bool). OnOk c.drop_pages.result (c.drop_pages.new.hints.table ≡ marked false (c.in-Ok.at ∷ pages) l)) c.locate.ensures.table (c.drop_pages.ensures.table (pack a) pages told same read left) in
+    dropping (c.in-Ok.ensures.stands told).carries
+    (look_before looks.alone.grown c.drop_pages.ensures.alone.grown (looks.silent told) (g.met.D.Disk.counted c.args.disk.now told) (g.met.D.Disk.counted c.locate.new.disk told) writes) table

@@ -11,6 +11,9 @@ use Rattle.disk_records.specs.Tapes.{pack}
 use Rattle.file_pages.proofs.Gone.{none_gone_twice, release_forgets}
 use Rattle.file_pages.specs.Releasing.{ListsNoneGone}
 use Rattle.file_pages.proofs.Erring.{was_found}
+use Rattle.disk_records.proofs.Framing.{page_by_sector, writes_then}
+use Rattle.disk_records.specs.Frames.{IsPageOf}
+use Rattle.file_pages.proofs.Freed.{frees_one, frees_then, keeps_bits}
 use Rattle.file_pages.proofs.dropping.drop_pages.Goals as goal
 
 pub returns-in-Ok-clause-drops : goal.returns-in-Ok-clause-drops
@@ -66,3 +69,14 @@ returns-in-Ok-clause-given g c = if_misled_map c.release_rest.result c.release_r
 
 pub returns-in-Err-clause-given : goal.returns-in-Err-clause-given
 returns-in-Err-clause-given g c = if_misled_map {T = Unit {0}} (Err c.in-Err.error) c.in-Err.ensures.held (λ place at wanted found x. inr (was_found c.args.fid c.args.at (page_number c.args.fid 0) refl place at wanted found x))
+
+pub returns-in-Ok-clause-frame : goal.returns-in-Ok-clause-frame
+returns-in-Ok-clause-frame g c told = writes_then (IsPageOf c.args.fid) (page_by_sector c.args.fid) c.release_leader.ensures.alone.grown c.release_rest.ensures.alone.grown (c.release_leader.ensures.frame told) (c.release_rest.ensures.frame told)
+
+pub returns-in-Ok-clause-bits : goal.returns-in-Ok-clause-bits
+returns-in-Ok-clause-bits g c told =
+    frees_then c.args.fid c.args.hints.now.table c.set.new.self c.release_rest.new.hints.table c.release_rest.ensures.alone.grown (c.release_rest.ensures.frame told)
+    (frees_one (pack (g.D.Tape.tape c.release_leader.new.disk)) c.args.at c.args.hints.now.table c.set.new.self (c.in-Ok.ensures.is_free told) c.set.ensures) (c.release_rest.ensures.bits told)
+
+pub returns-in-Err-clause-bits : goal.returns-in-Err-clause-bits
+returns-in-Err-clause-bits g c told = keeps_bits (pack (g.D.Tape.tape c.release_leader.new.disk)) refl

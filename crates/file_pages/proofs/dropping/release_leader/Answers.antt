@@ -6,6 +6,10 @@ use Rattle.file_pages.specs.Counting.{counted_after}
 use Rattle.file_pages.proofs.CommitFirst.{commits_done, commits_failed}
 use Rattle.file_pages.specs.Calls.{WasHeld}
 use Rattle.file_pages.proofs.Erring.{wrong_at}
+use Rattle.label_check.proofs.Framing.{guarded_writes, release_here}
+use Rattle.disk_records.specs.Frames.{IsPageOf}
+use Rattle.disk_records.specs.Tapes.{pack}
+use Rattle.file_pages.proofs.Freed.{released_free}
 use Rattle.file_pages.proofs.dropping.release_leader.Goals as goal
 
 pub returns-in-Ok-clause-commits : goal.returns-in-Ok-clause-commits
@@ -29,3 +33,18 @@ returns-in-Err-clause-commits g c told carries =
 
 pub returns-in-Err-clause-held : goal.returns-in-Err-clause-held
 returns-in-Err-clause-held g c = wrong_at (Unit {0}) (WasHeld c.args.at c.args.leader) c.in-Err.error (Held c.args.at) c.args.at c.args.leader c.error_at.result c.error_at.ensures (λ found. record { held = refl; address = refl; page_is = refl })
+
+pub returns-in-Ok-clause-frame : goal.returns-in-Ok-clause-frame
+returns-in-Ok-clause-frame g c told =
+    let Here = IsPageOf c.args.leader.fid (pack (g.D.Tape.tape c.args.disk.now)) in
+    guarded_writes Here (c.release-released.ensures.guarded told) (λ carries. release_here Here c.args.at (record { number = c.args.leader.number; carries = carries }))
+
+pub returns-in-Err-clause-frame : goal.returns-in-Err-clause-frame
+returns-in-Err-clause-frame g c told =
+    let Here = IsPageOf c.args.leader.fid (pack (g.D.Tape.tape c.args.disk.now)) in
+    guarded_writes Here (c.release-released.ensures.guarded told) (λ carries. release_here Here c.args.at (record { number = c.args.leader.number; carries = carries }))
+
+pub returns-in-Ok-clause-is_free : goal.returns-in-Ok-clause-is_free
+returns-in-Ok-clause-is_free g c told =
+    let done = (rw c.in-Ok.is at (c.release-released.ensures.guarded told)).ok in
+    released_free c.args.at c.args.leader c.release-released.ensures.alone.grown done.held done.wrote

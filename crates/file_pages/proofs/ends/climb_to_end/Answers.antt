@@ -1,4 +1,4 @@
-use Rattle.std.proofs.Common.{Err, arith, inl, inr, refl, subst, ◌-◌, ◌+◌, ◌≡◌}
+use Rattle.std.proofs.Common.{Err, arith, inl, inr, refl, subst, ◌-◌, ◌+◌, ◌≡◌, ◌∙◌}
 use Rattle.disk_records.proofs.Looking.{looks_none, looks_twice, looks_within}
 use Rattle.disk_records.specs.Tapes.{pack}
 use Rattle.page_seeking.proofs.Erring.{if_misled_map}
@@ -10,7 +10,7 @@ use Rattle.file_pages.specs.Ends.{IsDataPage}
 use Rattle.file_pages.proofs.ends.climb_to_end.Goals as goal
 
 pub loop-number-init : goal.loop-number-init
-loop-number-init g c = record { looks = looks_none _ (g.D.Tape.tape c.args.disk.now); page = c.requires.page }
+loop-number-init g c = record { looks = looks_none _ (g.D.Tape.tape c.args.disk.now); unfailed = refl; page = c.requires.page }
 
 pub loop-number-preserved : goal.loop-number-preserved
 loop-number-preserved g c =
@@ -18,6 +18,7 @@ loop-number-preserved g c =
     let next = c.in-Ok.ensures in
     record {
       looks = looks_twice (c.loop-number.number + 1 - c.args.from.number) inv.looks c.read_after.ensures.looks (omega (arith, c.loop-number.auto.number));
+      unfailed = c.in-Ok.ensures.cause ∙ inv.unfailed;
       page = page_before inv.looks (record { first = omega arith; most = few_bytes next.seen; known = λ told. known_read (record { seen = next.seen; stands = next.stands told }) });
     }
 

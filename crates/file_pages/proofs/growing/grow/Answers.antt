@@ -25,6 +25,11 @@ use Rattle.page_seeking.proofs.Erring.{if_misled_map}
 use Rattle.page_seeking.proofs.Listing.{is_listed}
 use Rattle.file_pages.proofs.Gone.{listed_still}
 use Rattle.file_pages.proofs.NewListed.{fresh_since, given_or_last}
+use Rattle.disk_records.proofs.Framing.{writes_silent}
+use Rattle.disk_records.specs.Frames.{IsFreeSector}
+use Rattle.disk_records.specs.Tapes.{added}
+use Rattle.file_pages.specs.Growing.{IsEndOrFree}
+use Rattle.file_pages.proofs.Framed.{end_of, grown_here}
 use Rattle.file_pages.proofs.growing.grow.Goals as goal
 
 pub returns-in-Err-clause-operates : goal.returns-in-Err-clause-operates
@@ -231,7 +236,7 @@ returns-in-Err-grown-clause-alone g c = alone_twice c.last_page.ensures.looks.al
 
 pub returns-in-Err-grown-clause-cause : goal.returns-in-Err-grown-clause-cause
 returns-in-Err-grown-clause-cause g c =
-    let less = c.last_page.ensures.looks.alone.grown.disk_faults in
+    let less = c.in-Ok.ensures.cause in
     cause_after (g.D.Tape.tape c.args.disk.now) (g.D.Tape.tape c.last_page.new.disk) (g.D.Tape.tape c.grow_pages-grown.new.disk) c.in-Err-grown.error less (rw c.in-Err-grown.is at c.grow_pages-grown.ensures.cause)
 
 pub returns-in-Some-clause-true_links : goal.returns-in-Some-clause-true_links
@@ -298,3 +303,28 @@ returns-in-Err-grown-clause-quiet g c o told stands may =
     let is = subst (λ (p : Pack). IsLast p fid last) packs (c.in-Ok.ensures.last told stands.whole) in
     let may_then = subst (λ (p : Pack). MayBeGrown p o fid c.args.bytes.now c.args.past.now c.args.fresh.now) packs may in
     none_misled (λ place at wanted found. IsQuiet (around a c.args.hints.now.table c.args.tally.now) (around d c.grow_pages-grown.new.table c.grow_pages-grown.new.tally)) c.in-Err-grown.error (rw c.in-Err-grown.is at (c.grow_pages-grown.ensures.misled o told whole tidy there is may_then))
+
+pub returns-in-Err-clause-frame : goal.returns-in-Err-clause-frame
+returns-in-Err-clause-frame g c told = writes_silent (IsEndOrFree c.args.file.now.fid (pack (g.D.Tape.tape c.args.disk.now))) (added (g.D.Tape.tape c.args.disk.now) (g.D.Tape.tape c.last_page.new.disk)) (c.last_page.ensures.looks.silent told)
+
+pub returns-in-Some-clause-frame : goal.returns-in-Some-clause-frame
+returns-in-Some-clause-frame g c told = writes_silent (IsEndOrFree c.args.file.now.fid (pack (g.D.Tape.tape c.args.disk.now))) (added (g.D.Tape.tape c.args.disk.now) (g.D.Tape.tape c.last_page.new.disk)) (c.last_page.ensures.looks.silent told)
+
+pub returns-in-Ok-grown-clause-frame : goal.returns-in-Ok-grown-clause-frame
+returns-in-Ok-grown-clause-frame g c told =
+    let p = pack (g.D.Tape.tape c.args.disk.now) in
+    let looks = c.last_page.ensures.looks in
+    let is = end_of p c.args.file.now.fid c.in-Ok.last c.last_page.new.buf (c.in-Ok.ensures.stands told) c.in-Ok.ensures.seen.tells c.in-Ok.ensures.ends in
+    grown_here c.args.file.now.fid c.in-Ok.last.at looks.alone.grown c.grow_pages-grown.ensures.alone.grown (looks.silent told) is (c.grow_pages-grown.ensures.frame told)
+
+pub returns-in-Err-grown-clause-frame : goal.returns-in-Err-grown-clause-frame
+returns-in-Err-grown-clause-frame g c told =
+    let p = pack (g.D.Tape.tape c.args.disk.now) in
+    let looks = c.last_page.ensures.looks in
+    let is = end_of p c.args.file.now.fid c.in-Ok.last c.last_page.new.buf (c.in-Ok.ensures.stands told) c.in-Ok.ensures.seen.tells c.in-Ok.ensures.ends in
+    grown_here c.args.file.now.fid c.in-Ok.last.at looks.alone.grown c.grow_pages-grown.ensures.alone.grown (looks.silent told) is (c.grow_pages-grown.ensures.frame told)
+
+pub returns-in-Ok-grown-clause-were_free : goal.returns-in-Ok-grown-clause-were_free
+returns-in-Ok-grown-clause-were_free g c told =
+    let packs = pack-silent c.last_page.ensures.looks.alone.grown (c.last_page.ensures.looks.silent told) in
+    subst (λ (p : Pack). All (IsFreeSector p) c.args.fresh.now) packs (rw c.in-Ok-grown.is at (c.grow_pages-grown.ensures.were_free told))

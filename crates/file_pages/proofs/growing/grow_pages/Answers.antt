@@ -15,6 +15,7 @@ use Rattle.file_pages.proofs.Erring.{cause_after}
 use Rattle.file_pages.proofs.GrownPages.{Asked, claims_then, grew_then, may_claim, not_claimed, operated, still_there, words_are}
 use Rattle.file_pages.proofs.LastLabel.{label_says}
 use Rattle.page_seeking.proofs.Erring.{if_misled_map}
+use Rattle.file_pages.proofs.Framed.{claims_and_commit, only_claims}
 use Rattle.file_pages.proofs.growing.grow_pages.Goals as goal
 
 pub returns-in-Err-clause-operates : goal.returns-in-Err-clause-operates
@@ -244,7 +245,7 @@ returns-in-Err-committed-clause-alone g c = alone_twice c.claim_pages.ensures.al
 
 pub returns-in-Err-committed-clause-cause : goal.returns-in-Err-committed-clause-cause
 returns-in-Err-committed-clause-cause g c =
-    let less = c.claim_pages.ensures.alone.grown.disk_faults in
+    let less = c.in-Ok.ensures.cause in
     cause_after (g.D.Tape.tape c.args.disk.now) (g.D.Tape.tape c.claim_pages.new.disk) (g.D.Tape.tape c.commit_page-committed.new.disk) c.in-Err-committed.error less (rw c.in-Err-committed.is at c.commit_page-committed.ensures.cause)
 
 pub commit_page-committed-requires-clause-same : goal.commit_page-committed-requires-clause-same
@@ -263,3 +264,12 @@ returns-in-Err-clause-given g c = if_misled_map {T = Unit {0}} (Err c.in-Err.err
 pub returns-in-Err-committed-clause-given : goal.returns-in-Err-committed-clause-given
 returns-in-Err-committed-clause-given g c =
     if_misled_map {T = Unit {0}} (Err c.in-Err-committed.error) (rw c.in-Err-committed.is at c.commit_page-committed.ensures.held) (λ place at wanted found x. inr (record { held = x.held; address = x.address; page_is = x.page_is ∙ c.page_of_file-page.ensures }))
+
+pub returns-in-Err-clause-frame : goal.returns-in-Err-clause-frame
+returns-in-Err-clause-frame g c told = only_claims c.args.last.at (g.D.Tape.tape c.args.disk.now) (g.D.Tape.tape c.claim_pages.new.disk) (c.claim_pages.ensures.frame told)
+
+pub returns-in-Ok-committed-clause-frame : goal.returns-in-Ok-committed-clause-frame
+returns-in-Ok-committed-clause-frame g c told = claims_and_commit c.args.last.at c.claim_pages.ensures.alone.grown c.commit_page-committed.ensures.alone.grown (c.claim_pages.ensures.frame told) (c.commit_page-committed.ensures.frame told)
+
+pub returns-in-Err-committed-clause-frame : goal.returns-in-Err-committed-clause-frame
+returns-in-Err-committed-clause-frame g c told = claims_and_commit c.args.last.at c.claim_pages.ensures.alone.grown c.commit_page-committed.ensures.alone.grown (c.claim_pages.ensures.frame told) (c.commit_page-committed.ensures.frame told)

@@ -7,6 +7,10 @@ use Rattle.file_pages.specs.Counting.{counted_after}
 use Rattle.file_pages.proofs.Erring.{never_misled, wrong_at}
 use Rattle.file_pages.proofs.LastWrites.{carried_still, label_done, label_not_done, value_not_done, value_stands}
 use Rattle.file_pages.specs.Calls.{WasHeld}
+use Rattle.disk_records.specs.Packs.{sector_at}
+use Rattle.disk_records.specs.Tapes.{pack}
+use Rattle.label_check.proofs.Framing.{guarded_writes, relabel_here, value_here}
+use Rattle.file_pages.proofs.Framed.{writes_join}
 use Rattle.file_pages.proofs.last_words.commit_page.Goals as goal
 
 pub returns-in-Err-clause-commits : goal.returns-in-Err-clause-commits
@@ -79,3 +83,22 @@ returns-in-Ok-labelled-clause-guards g c told some = (c.in-Ok.ensures.guarded to
 
 pub returns-in-Err-labelled-clause-guards : goal.returns-in-Err-labelled-clause-guards
 returns-in-Err-labelled-clause-guards g c told some = (c.in-Ok.ensures.guarded told).ok.held
+
+pub returns-in-Err-clause-frame : goal.returns-in-Err-clause-frame
+returns-in-Err-clause-frame g c told =
+    let Here : ℕ → Type 0 = λ i. i ≡ c.args.at in
+    guarded_writes Here (c.write_value.ensures.guarded told) (λ held. value_here Here c.args.at refl c.args.value.now)
+
+pub returns-in-Ok-labelled-clause-frame : goal.returns-in-Ok-labelled-clause-frame
+returns-in-Ok-labelled-clause-frame g c told =
+    let Here : ℕ → Type 0 = λ i. i ≡ c.args.at in
+    writes_join Here c.write_value.ensures.alone.grown c.relabel-labelled.ensures.alone.grown
+    (guarded_writes Here (c.write_value.ensures.guarded told) (λ held. value_here Here c.args.at refl c.args.value.now))
+    (guarded_writes Here (c.relabel-labelled.ensures.guarded told) (λ held. relabel_here Here c.args.at refl c.args.label (sector_at (pack (g.D.Tape.tape c.write_value.new.disk)) c.args.at).value))
+
+pub returns-in-Err-labelled-clause-frame : goal.returns-in-Err-labelled-clause-frame
+returns-in-Err-labelled-clause-frame g c told =
+    let Here : ℕ → Type 0 = λ i. i ≡ c.args.at in
+    writes_join Here c.write_value.ensures.alone.grown c.relabel-labelled.ensures.alone.grown
+    (guarded_writes Here (c.write_value.ensures.guarded told) (λ held. value_here Here c.args.at refl c.args.value.now))
+    (guarded_writes Here (c.relabel-labelled.ensures.guarded told) (λ held. relabel_here Here c.args.at refl c.args.label (sector_at (pack (g.D.Tape.tape c.write_value.new.disk)) c.args.at).value))

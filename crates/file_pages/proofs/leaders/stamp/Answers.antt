@@ -1,6 +1,8 @@
-use Rattle.std.proofs.Common.{Bool, List, [], arith, subst, Err, refl, ap, inl, inr}
+use Rattle.std.proofs.Common.{ℕ, ◌∙◌, ◌≡◌, Bool, List, [], arith, subst, Err, refl, ap, inl, inr}
 use Rattle.disk_records.proofs.Growing.{alone_twice}
-use Rattle.disk_records.specs.Tapes.{pack}
+use Rattle.disk_records.proofs.Framing.{writes_after_look, writes_silent}
+use Rattle.disk_records.specs.Frames.{IsPageOf, WritesIn}
+use Rattle.disk_records.specs.Tapes.{added, pack}
 use Rattle.pack_model.specs.operations.Step.Operation.{stamp}
 use Rattle.laws_call.specs.Acting.{Operates, around}
 use Rattle.page_seeking.specs.declared.refs.FileError.TheVariants as error
@@ -12,6 +14,11 @@ use Rattle.page_seeking.specs.Seeking.{length_at}
 use Rattle.disk_records.specs.declared.records.Page.{Page}
 use Rattle.page_seeking.proofs.Erring.{if_misled_map}
 use Rattle.file_pages.proofs.Erring.{was_found}
+use Rattle.disk_records.specs.Packs.{sector_at}
+use Rattle.pack_model.specs.operations.PageWords.{stamped_value}
+use Rattle.page_seeking.specs.declared.ends.LastPage.{LastPage}
+use Rattle.file_pages.specs.Values.{WroteValue, stamping, unstamped}
+use Rattle.file_pages.proofs.Erring.{memory_too}
 use Rattle.file_pages.proofs.leaders.stamp.Goals as goal
 
 pub returns-in-Ok-clause-alone : goal.returns-in-Ok-clause-alone
@@ -64,3 +71,33 @@ returns-in-Ok-clause-given g c = if_misled_map c.write_page.result c.write_page.
 
 pub returns-in-Err-clause-given : goal.returns-in-Err-clause-given
 returns-in-Err-clause-given g c = if_misled_map {T = Unit {0}} (Err c.in-Err.error) c.in-Err.ensures.hint (λ place at wanted found x. inl x)
+
+pub returns-in-Ok-clause-frame : goal.returns-in-Ok-clause-frame
+returns-in-Ok-clause-frame g c told =
+    let b = g.D.Tape.tape c.locate_ends.new.disk in
+    let d = g.D.Tape.tape c.write_page.new.disk in
+    let looks = c.locate_ends.ensures.looks in
+    writes_after_look (IsPageOf c.args.file.now.fid) looks.alone.grown c.write_page.ensures.alone.grown (looks.silent told)
+    (subst (λ (p : Page). WritesIn (IsPageOf p.fid (pack b)) (added b d)) c.page_of_file.ensures (c.write_page.ensures.frame told))
+
+pub returns-in-Err-clause-frame : goal.returns-in-Err-clause-frame
+returns-in-Err-clause-frame g c told = writes_silent (IsPageOf c.args.file.now.fid (pack (g.D.Tape.tape c.args.disk.now))) _ (c.locate_ends.ensures.looks.silent told)
+
+pub returns-in-Ok-clause-stamps : goal.returns-in-Ok-clause-stamps
+returns-in-Ok-clause-stamps g c told =
+    let a = g.D.Tape.tape c.args.disk.now in
+    let d = g.D.Tape.tape c.write_page.new.disk in
+    let fid = c.args.file.now.fid in
+    let at = c.in-Ok.at in
+    let last = c.in-Ok.last in
+    let looks = c.locate_ends.ensures.looks in
+    let bits = c.locate_ends.new.hints.table in
+    let value : c.put_stamp.new.value ≡ stamped_value c.args.moment last.at last.number last.info.bytes (sector_at (pack a) at).value = c.put_stamp.ensures ∙ ap (stamped_value c.args.moment last.at last.number last.info.bytes) (c.in-Ok.ensures.value told) in
+    let writes = value_after_look bits c.args.tally.now c.write_page.new.tally looks.alone c.write_page.ensures.alone (looks.silent told) (g.met.D.Disk.counted c.args.disk.now told) (g.met.D.Disk.counted c.locate_ends.new.disk told) (c.write_page.ensures.writes (stamp fid c.args.moment) bits told) in
+    stamping {last = last} (c.in-Ok.ensures.carries told) (c.in-Ok.ensures.end told)
+    (subst (λ (l : List Bool). WroteValue {T = Unit {0}} at (stamped_value c.args.moment last.at last.number last.info.bytes (sector_at (pack a) at).value) (stamp fid c.args.moment) (around a l c.args.tally.now) (around d bits c.write_page.new.tally) c.write_page.result) c.locate_ends.ensures.table
+    (subst (λ (v : List ℕ). WroteValue {T = Unit {0}} at v (stamp fid c.args.moment) (around a bits c.args.tally.now) (around d bits c.write_page.new.tally) c.write_page.result) value writes))
+
+pub returns-in-Err-clause-stamps : goal.returns-in-Err-clause-stamps
+returns-in-Err-clause-stamps g c told =
+    unstamped (record { silent = c.locate_ends.ensures.looks.silent told; bits = c.locate_ends.ensures.table; tally = refl }) tt (λ memory. c.in-Err.ensures.want told (memory_too (ℕ × LastPage) c.in-Err.error memory))

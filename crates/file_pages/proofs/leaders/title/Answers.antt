@@ -1,6 +1,8 @@
-use Rattle.std.proofs.Common.{Bool, List, [], ap, arith, subst, ℕ, Err, inl, inr}
+use Rattle.std.proofs.Common.{refl, ◌∙◌, ◌≡◌, Bool, List, [], ap, arith, subst, ℕ, Err, inl, inr}
 use Rattle.disk_records.proofs.Growing.{alone_twice}
-use Rattle.disk_records.specs.Tapes.{pack}
+use Rattle.disk_records.proofs.Framing.{writes_after_look, writes_silent}
+use Rattle.disk_records.specs.Frames.{IsPageOf, WritesIn}
+use Rattle.disk_records.specs.Tapes.{added, pack}
 use Rattle.disk_records.specs.declared.records.Sector.{Sector}
 use Rattle.label_check.specs.declared.errors.PageInfo.{PageInfo}
 use Rattle.pack_model.specs.operations.Step.Operation.{title}
@@ -15,6 +17,10 @@ use Rattle.page_seeking.proofs.Erring.{on_ok}
 use Rattle.disk_records.specs.declared.records.Page.{Page}
 use Rattle.page_seeking.proofs.Erring.{if_misled_map}
 use Rattle.file_pages.proofs.Erring.{was_found}
+use Rattle.disk_records.specs.Packs.{sector_at}
+use Rattle.pack_model.specs.operations.PageWords.{titled_value}
+use Rattle.file_pages.specs.Values.{WroteValue, titling, untitled}
+use Rattle.file_pages.proofs.Erring.{memory_too}
 use Rattle.file_pages.proofs.leaders.title.Goals as goal
 
 pub returns-in-Ok-clause-alone : goal.returns-in-Ok-clause-alone
@@ -66,3 +72,33 @@ returns-in-Ok-clause-given g c = if_misled_map c.write_page.result c.write_page.
 
 pub returns-in-Err-clause-given : goal.returns-in-Err-clause-given
 returns-in-Err-clause-given g c = if_misled_map {T = Unit {0}} (Err c.in-Err.error) c.in-Err.ensures.hint (λ place at wanted found x. inl x)
+
+pub returns-in-Ok-clause-frame : goal.returns-in-Ok-clause-frame
+returns-in-Ok-clause-frame g c told =
+    let b = g.D.Tape.tape c.locate.new.disk in
+    let d = g.D.Tape.tape c.write_page.new.disk in
+    let looks = c.locate.ensures.looks in
+    writes_after_look (IsPageOf c.args.file.now.fid) looks.alone.grown c.write_page.ensures.alone.grown (looks.silent told)
+    (subst (λ (p : Page). WritesIn (IsPageOf p.fid (pack b)) (added b d)) c.page_of_file.ensures (c.write_page.ensures.frame told))
+
+pub returns-in-Err-clause-frame : goal.returns-in-Err-clause-frame
+returns-in-Err-clause-frame g c told = writes_silent (IsPageOf c.args.file.now.fid (pack (g.D.Tape.tape c.args.disk.now))) _ (c.locate.ensures.looks.silent told)
+
+pub returns-in-Ok-clause-titles : goal.returns-in-Ok-clause-titles
+returns-in-Ok-clause-titles g c told =
+    let a = g.D.Tape.tape c.args.disk.now in
+    let d = g.D.Tape.tape c.write_page.new.disk in
+    let fid = c.args.file.now.fid in
+    let at = c.in-Ok.at in
+    let there = c.in-Ok.ensures.stands told in
+    let looks = c.locate.ensures.looks in
+    let bits = c.locate.new.hints.table in
+    let value : c.put_name.new.value ≡ titled_value c.args.name.now (sector_at (pack a) at).value = c.put_name.ensures.value ∙ ap (λ (s : Sector). titled_value c.args.name.now s.value) there.holds in
+    let writes = value_after_look bits c.args.tally.now c.write_page.new.tally looks.alone c.write_page.ensures.alone (looks.silent told) (g.met.D.Disk.counted c.args.disk.now told) (g.met.D.Disk.counted c.locate.new.disk told) (c.write_page.ensures.writes (title fid c.args.name.now) bits told) in
+    titling there.carries
+    (subst (λ (l : List Bool). WroteValue {T = Unit {0}} at (titled_value c.args.name.now (sector_at (pack a) at).value) (title fid c.args.name.now) (around a l c.args.tally.now) (around d bits c.write_page.new.tally) c.write_page.result) c.locate.ensures.table
+    (subst (λ (v : List ℕ). WroteValue {T = Unit {0}} at v (title fid c.args.name.now) (around a bits c.args.tally.now) (around d bits c.write_page.new.tally) c.write_page.result) value writes))
+
+pub returns-in-Err-clause-titles : goal.returns-in-Err-clause-titles
+returns-in-Err-clause-titles g c told =
+    untitled (record { silent = c.locate.ensures.looks.silent told; bits = c.locate.ensures.table; tally = refl }) tt (λ memory. c.in-Err.ensures.want told (memory_too (ℕ × PageInfo) c.in-Err.error memory))

@@ -11,6 +11,10 @@ use Rattle.file_pages.specs.Counting.{counted_after}
 use Rattle.file_pages.proofs.ClaimedWords.{claimed_as, few_bytes, label_ranged}
 use Rattle.file_pages.proofs.Erring.{never_misled, wrong_at}
 use Rattle.file_pages.proofs.TwoClaims.{leader_still_free, make_broken, make_done, make_others, make_placed, make_unbegun}
+use Rattle.disk_records.proofs.Framing.{free_by_sector, free_before, writes_then}
+use Rattle.disk_records.specs.Frames.{IsFreeSector}
+use Rattle.disk_records.specs.Tapes.{pack}
+use Rattle.label_check.proofs.Framing.{claim_here, guarded_writes}
 use Rattle.file_pages.proofs.making.make_file.Goals as goal
 
 pub claim-requires-clause-label : goal.claim-requires-clause-label
@@ -111,3 +115,32 @@ returns-in-Ok-claimed-clause-runs g c told = let r = (c.claim.ensures.guarded to
 
 pub returns-in-Err-claimed-clause-runs : goal.returns-in-Err-claimed-clause-runs
 returns-in-Err-claimed-clause-runs g c told = let r = (c.claim.ensures.guarded told).runs in let s = (c.claim-claimed.ensures.guarded told).runs in omega (arith, r, s)
+
+pub returns-in-Err-clause-frame : goal.returns-in-Err-clause-frame
+returns-in-Err-clause-frame g c told =
+    let Here = IsFreeSector (pack (g.D.Tape.tape c.args.disk.now)) in
+    guarded_writes Here (c.in-Err.ensures.guarded told) (λ free. claim_here Here c.args.page_at free c.first_label-label.result c.first_value-value.result)
+
+pub returns-in-Ok-claimed-clause-frame : goal.returns-in-Ok-claimed-clause-frame
+returns-in-Ok-claimed-clause-frame g c told =
+    let a = g.D.Tape.tape c.args.disk.now in
+    let b = g.D.Tape.tape c.claim.new.disk in
+    writes_then IsFreeSector free_by_sector c.claim.ensures.alone.grown c.claim-claimed.ensures.alone.grown
+    (guarded_writes (IsFreeSector (pack a)) (c.in-Ok.ensures.guarded told) (λ free. claim_here (IsFreeSector (pack a)) c.args.page_at free c.first_label-label.result c.first_value-value.result))
+    (guarded_writes (IsFreeSector (pack b)) (c.claim-claimed.ensures.guarded told) (λ free. claim_here (IsFreeSector (pack b)) c.args.leader_at free c.new_leader_label-label.result c.new_value-value.result))
+
+pub returns-in-Err-claimed-clause-frame : goal.returns-in-Err-claimed-clause-frame
+returns-in-Err-claimed-clause-frame g c told =
+    let a = g.D.Tape.tape c.args.disk.now in
+    let b = g.D.Tape.tape c.claim.new.disk in
+    writes_then IsFreeSector free_by_sector c.claim.ensures.alone.grown c.claim-claimed.ensures.alone.grown
+    (guarded_writes (IsFreeSector (pack a)) (c.in-Ok.ensures.guarded told) (λ free. claim_here (IsFreeSector (pack a)) c.args.page_at free c.first_label-label.result c.first_value-value.result))
+    (guarded_writes (IsFreeSector (pack b)) (c.claim-claimed.ensures.guarded told) (λ free. claim_here (IsFreeSector (pack b)) c.args.leader_at free c.new_leader_label-label.result c.new_value-value.result))
+
+pub returns-in-Ok-claimed-clause-were_free : goal.returns-in-Ok-claimed-clause-were_free
+returns-in-Ok-claimed-clause-were_free g c told =
+    let a = g.D.Tape.tape c.args.disk.now in
+    let first = c.in-Ok.ensures.guarded told in
+    let second = rw c.in-Ok-claimed.is at (c.claim-claimed.ensures.guarded told) in
+    let writes = guarded_writes (IsFreeSector (pack a)) first (λ free. claim_here (IsFreeSector (pack a)) c.args.page_at free c.first_label-label.result c.first_value-value.result) in
+    (free_before c.claim.ensures.alone.grown writes c.args.leader_at second.ok.held, first.ok.held)

@@ -7,6 +7,9 @@ use Rattle.label_check.specs.Guarded.{Carries, FoundWrong}
 use Rattle.file_pages.proofs.Erring.{wrong_at}
 use Rattle.file_pages.proofs.Going.{at_wrong}
 use Rattle.file_pages.specs.Calls.{WasHeld}
+use Rattle.label_check.proofs.Framing.{guarded_writes, value_here}
+use Rattle.disk_records.specs.Frames.{IsPageOf}
+use Rattle.disk_records.specs.Tapes.{pack}
 use Rattle.file_pages.proofs.one_value.write_page.Goals as goal
 
 pub returns-in-Ok-clause-writes : goal.returns-in-Ok-clause-writes
@@ -49,3 +52,13 @@ returns-in-Ok-clause-guards g c told = (c.write_value-written.ensures.guarded to
 
 pub returns-in-Err-clause-guards : goal.returns-in-Err-clause-guards
 returns-in-Err-clause-guards g c told = (c.write_value-written.ensures.guarded told).guarded
+
+pub returns-in-Ok-clause-frame : goal.returns-in-Ok-clause-frame
+returns-in-Ok-clause-frame g c told =
+    let Here = IsPageOf c.args.page.fid (pack (g.D.Tape.tape c.args.disk.now)) in
+    guarded_writes Here (c.write_value-written.ensures.guarded told) (λ carries. value_here Here c.args.at (record { number = c.args.page.number; carries = carries }) c.args.value.now)
+
+pub returns-in-Err-clause-frame : goal.returns-in-Err-clause-frame
+returns-in-Err-clause-frame g c told =
+    let Here = IsPageOf c.args.page.fid (pack (g.D.Tape.tape c.args.disk.now)) in
+    guarded_writes Here (c.write_value-written.ensures.guarded told) (λ carries. value_here Here c.args.at (record { number = c.args.page.number; carries = carries }) c.args.value.now)

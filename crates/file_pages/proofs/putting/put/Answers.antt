@@ -1,4 +1,4 @@
-use Rattle.std.proofs.Common.{Bool, List, ap, length, refl, subst, sym, ℕ, ◌%◌, ◌∙◌, ◌≡◌, Err, [], inl, inr}
+use Rattle.std.proofs.Common.{not, Bool, List, ap, length, refl, subst, sym, ℕ, ◌%◌, ◌∙◌, ◌≡◌, Err, [], inl, inr}
 use Rattle.disk_records.proofs.Growing.{alone_twice}
 use Rattle.disk_records.specs.Tapes.{pack}
 use Rattle.disk_records.specs.declared.records.Sector.{Sector}
@@ -9,12 +9,15 @@ use Rattle.file_pages.specs.Putting.{value_put}
 use Rattle.file_pages.specs.Values.{WroteValue}
 use Rattle.file_pages.proofs.PutOnce.{Fits, put_operates, put_puts}
 use Rattle.file_pages.proofs.Valued.{look_leaves_handy, value_after_look, value_leaves_handy}
-use Rattle.file_pages.proofs.WithinFile.{ends_before, never_beyond}
+use Rattle.file_pages.proofs.WithinFile.{ends_before, last_only, never_beyond}
 use Rattle.page_seeking.proofs.TrueLinks.{never_led}
 use Rattle.page_seeking.proofs.Erring.{on_ok}
 use Rattle.disk_records.specs.declared.records.Page.{Page}
 use Rattle.page_seeking.proofs.Erring.{if_misled_map}
 use Rattle.file_pages.proofs.Erring.{was_found}
+use Rattle.disk_records.proofs.Framing.{writes_after_look, writes_silent}
+use Rattle.disk_records.specs.Frames.{IsPageOf, WritesIn}
+use Rattle.disk_records.specs.Tapes.{added}
 use Rattle.file_pages.proofs.putting.put.Goals as goal
 
 pub returns-in-Ok-clause-alone : goal.returns-in-Ok-clause-alone
@@ -67,7 +70,7 @@ pub returns-in-Err-clause-beyond : goal.returns-in-Err-clause-beyond
 returns-in-Err-clause-beyond g c told whole =
     let a = g.D.Tape.tape c.args.disk.now in
     let b = g.D.Tape.tape c.locate_bytes.new.disk in
-    ends_before (ℕ × ℕ) (Unit {0}) (pack a) c.args.file.now.fid _ (around a c.args.hints.now.table c.args.tally.now) (around b c.locate_bytes.new.hints.table c.args.tally.now) c.in-Err.error
+    ends_before (ℕ × ℕ) (Unit {0}) (pack a) c.args.file.now.fid _ c.args.past.now _ (around a c.args.hints.now.table c.args.tally.now) (around b c.locate_bytes.new.hints.table c.args.tally.now) c.in-Err.error (ap not c.is_empty-ends.ensures)
     (record { silent = c.locate_bytes.ensures.looks.silent told; bits = c.locate_bytes.ensures.table; tally = refl }) (c.in-Err.ensures.beyond told whole)
 
 pub returns-in-Ok-clause-handy : goal.returns-in-Ok-clause-handy
@@ -98,3 +101,20 @@ returns-in-Ok-clause-given g c = if_misled_map c.write_page.result c.write_page.
 
 pub returns-in-Err-clause-given : goal.returns-in-Err-clause-given
 returns-in-Err-clause-given g c = if_misled_map {T = Unit {0}} (Err c.in-Err.error) c.in-Err.ensures.hint (λ place at wanted found x. inl x)
+
+pub returns-in-Err-clause-frame : goal.returns-in-Err-clause-frame
+returns-in-Err-clause-frame g c told = writes_silent (IsPageOf c.args.file.now.fid (pack (g.D.Tape.tape c.args.disk.now))) (added (g.D.Tape.tape c.args.disk.now) (g.D.Tape.tape c.locate_bytes.new.disk)) (c.locate_bytes.ensures.looks.silent told)
+
+pub returns-in-Ok-clause-frame : goal.returns-in-Ok-clause-frame
+returns-in-Ok-clause-frame g c told =
+    let b = g.D.Tape.tape c.locate_bytes.new.disk in
+    let d = g.D.Tape.tape c.write_page.new.disk in
+    let looks = c.locate_bytes.ensures.looks in
+    writes_after_look (IsPageOf c.args.file.now.fid) looks.alone.grown c.write_page.ensures.alone.grown (looks.silent told)
+    (subst (λ (x : Page). WritesIn (IsPageOf x.fid (pack b)) (added b d)) c.page_of_file.ensures (c.write_page.ensures.frame told))
+
+pub returns-in-Ok-clause-last : goal.returns-in-Ok-clause-last
+returns-in-Ok-clause-last g c told whole some = last_only (pack (g.D.Tape.tape c.args.disk.now)) c.args.file.now.fid c.args.offset c.args.bytes.now c.args.past.now _ (ap not c.is_empty-ends.ensures) (c.in-Ok.ensures.last_bytes told whole)
+
+pub returns-in-Err-clause-last : goal.returns-in-Err-clause-last
+returns-in-Err-clause-last g c told whole some = absurd (some (c.locate_bytes.ensures.looks.silent told))

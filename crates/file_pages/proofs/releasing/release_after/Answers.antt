@@ -1,4 +1,4 @@
-use Rattle.std.proofs.Common.{Err, Some, ap, arith, length, refl, subst, sym, ℕ, ◌++◌, ◌∙◌, ◌≡◌}
+use Rattle.std.proofs.Common.{Err, Some, ap, arith, length, refl, subst, sym, ℕ, ◌++◌, ◌+◌, ◌∙◌, ◌≡◌}
 use Rattle.disk_records.proofs.Growing.{added-twice, alone_twice, pack-after}
 use Rattle.disk_records.proofs.Looking.{looks_pack}
 use Rattle.disk_records.specs.Commands.{release_writes}
@@ -16,6 +16,10 @@ use Rattle.file_pages.proofs.Following.{follows_next}
 use Rattle.file_pages.proofs.Gone.{release_forgets}
 use Rattle.file_pages.specs.Releasing.{ListsNoneGone, MisledSince}
 use Rattle.page_seeking.specs.Refs.{IsOwnLink}
+use Rattle.disk_records.proofs.Framing.{writes_after_look, writes_silent}
+use Rattle.disk_records.specs.Frames.{IsPageOf}
+use Rattle.label_check.proofs.Framing.{guarded_writes, release_here}
+use Rattle.file_pages.proofs.Freed.{frees_one, keeps_bits, released_free}
 use Rattle.file_pages.proofs.releasing.release_after.Goals as goal
 
 pub returns-in-Ok-release-clause-released : goal.returns-in-Ok-release-clause-released
@@ -100,3 +104,31 @@ pub returns-in-Err-release-clause-link : goal.returns-in-Err-release-clause-link
 returns-in-Err-release-clause-link g c =
     let page = c.args.page in
     wrong_at (ℕ × PageInfo) (λ place at wanted found. IsOwnLink page.fid place wanted) c.in-Err-release.error (Next c.args.at) c.args.info.next (page_after page) c.error_at.result c.error_at.ensures (λ found. record { followed = c.args.at; link = refl; own = refl; later = omega arith })
+
+pub returns-in-Err-clause-frame : goal.returns-in-Err-clause-frame
+returns-in-Err-clause-frame g c told = writes_silent (IsPageOf c.args.page.fid (pack (g.D.Tape.tape c.args.disk.now))) (added (g.D.Tape.tape c.args.disk.now) (g.D.Tape.tape c.read_after.new.disk)) (c.read_after.ensures.looks.silent told)
+
+pub returns-in-Ok-release-clause-frame : goal.returns-in-Ok-release-clause-frame
+returns-in-Ok-release-clause-frame g c told =
+    let Here = IsPageOf c.args.page.fid (pack (g.D.Tape.tape c.read_after.new.disk)) in
+    let looks = c.read_after.ensures.looks in
+    writes_after_look (IsPageOf c.args.page.fid) looks.alone.grown c.release.ensures.alone.grown (looks.silent told)
+    (guarded_writes Here (c.release.ensures.guarded told) (λ carries. release_here Here c.in-Ok.to (record { number = c.args.page.number + 1; carries = carries })))
+
+pub returns-in-Err-release-clause-frame : goal.returns-in-Err-release-clause-frame
+returns-in-Err-release-clause-frame g c told =
+    let Here = IsPageOf c.args.page.fid (pack (g.D.Tape.tape c.read_after.new.disk)) in
+    let looks = c.read_after.ensures.looks in
+    writes_after_look (IsPageOf c.args.page.fid) looks.alone.grown c.release.ensures.alone.grown (looks.silent told)
+    (guarded_writes Here (c.release.ensures.guarded told) (λ carries. release_here Here c.in-Ok.to (record { number = c.args.page.number + 1; carries = carries })))
+
+pub returns-in-Ok-release-clause-bits : goal.returns-in-Ok-release-clause-bits
+returns-in-Ok-release-clause-bits g c told =
+    let done = (c.in-Ok-release.ensures.guarded told).ok in
+    frees_one (pack (g.D.Tape.tape c.release.new.disk)) c.in-Ok.to c.args.hints.now.table c.set.new.self (released_free c.in-Ok.to (page_after c.args.page) c.release.ensures.alone.grown done.held done.wrote) c.set.ensures
+
+pub returns-in-Err-clause-bits : goal.returns-in-Err-clause-bits
+returns-in-Err-clause-bits g c told = keeps_bits (pack (g.D.Tape.tape c.read_after.new.disk)) refl
+
+pub returns-in-Err-release-clause-bits : goal.returns-in-Err-release-clause-bits
+returns-in-Err-release-clause-bits g c told = keeps_bits (pack (g.D.Tape.tape c.release.new.disk)) refl

@@ -1,6 +1,6 @@
 use Rattle.std.proofs.Common.{None, ap, arith, inl, inr, refl, subst, ◌+◌, ◌∙◌, ◌≡◌, ◌≤◌}
-use Rattle.disk_records.proofs.Growing.{alone_here, alone_twice}
-use Rattle.disk_records.specs.Tapes.{pack}
+use Rattle.disk_records.proofs.Growing.{alone_here, alone_twice, nothing_added}
+use Rattle.disk_records.specs.Tapes.{added, pack}
 use Rattle.disk_records.specs.declared.records.Page.{Page}
 use Rattle.hint_cache.specs.Caches.{address_in}
 use Rattle.page_seeking.proofs.Ending.{same_or_less}
@@ -8,11 +8,17 @@ use Rattle.page_seeking.specs.Seeking.{page_number}
 use Rattle.file_pages.proofs.Gone.{none_gone_twice}
 use Rattle.file_pages.proofs.Remaining.{short_end}
 use Rattle.file_pages.proofs.ReleaseLoop.{halfway_here, halfway_more, releases_all, releases_broke}
+use Rattle.disk_records.proofs.Framing.{page_by_sector, writes_silent, writes_then}
+use Rattle.disk_records.specs.Frames.{IsPageOf}
+use Rattle.file_pages.proofs.Freed.{frees_then, keeps_bits}
 use Rattle.file_pages.proofs.releasing.release_rest.Goals as goal
 
 pub loop-lower-init : goal.loop-lower-init
 loop-lower-init g c = record {
   alone = alone_here (g.D.Tape.tape c.args.disk.now);
+  unfailed = refl;
+  frame = λ told. writes_silent (IsPageOf c.args.fid (pack (g.D.Tape.tape c.args.disk.now))) (added (g.D.Tape.tape c.args.disk.now) (g.D.Tape.tape c.args.disk.now)) (nothing_added (g.D.Tape.tape c.args.disk.now).events);
+  bits = λ told. keeps_bits (pack (g.D.Tape.tape c.args.disk.now)) refl;
   sized = refl;
   refused = refl;
   handy = λ ss f handy. handy;
@@ -30,6 +36,9 @@ loop-lower-preserved g c =
     let step = c.release_after.ensures in
     record {
       alone = alone_twice inv.alone step.alone;
+      unfailed = c.in-Ok.ensures.cause ∙ inv.unfailed;
+      frame = λ told. writes_then (IsPageOf c.args.fid) (page_by_sector c.args.fid) inv.alone.grown step.alone.grown (inv.frame told) (step.frame told);
+      bits = λ told. frees_then c.args.fid c.args.hints.now.table c.loop-lower.hints.table c.release_after.new.hints.table step.alone.grown (step.frame told) (inv.bits told) (step.bits told);
       sized = step.sized ∙ inv.sized;
       refused = step.refused ∙ inv.refused;
       handy = λ ss f handy. step.handy ss f (inv.handy ss f handy);
@@ -101,3 +110,9 @@ returns-in-Err-clause-here g c =
 
 pub returns-in-Err-clause-gone : goal.returns-in-Err-clause-gone
 returns-in-Err-clause-gone g c told = none_gone_twice (pack (g.D.Tape.tape c.args.disk.now)) (pack (g.D.Tape.tape c.loop-lower.disk)) (pack (g.D.Tape.tape c.release_after.new.disk)) c.loop-lower.hints.cache c.release_after.new.hints.cache (c.loop-lower.invariant.gone told) c.release_after.ensures.no_more (c.release_after.ensures.gone told)
+
+pub returns-in-Err-clause-frame : goal.returns-in-Err-clause-frame
+returns-in-Err-clause-frame g c told = writes_then (IsPageOf c.args.fid) (page_by_sector c.args.fid) c.loop-lower.invariant.alone.grown c.release_after.ensures.alone.grown (c.loop-lower.invariant.frame told) (c.release_after.ensures.frame told)
+
+pub returns-in-Err-clause-bits : goal.returns-in-Err-clause-bits
+returns-in-Err-clause-bits g c told = frees_then c.args.fid c.args.hints.now.table c.loop-lower.hints.table c.release_after.new.hints.table c.release_after.ensures.alone.grown (c.release_after.ensures.frame told) (c.loop-lower.invariant.bits told) (c.release_after.ensures.bits told)

@@ -1,9 +1,11 @@
 use Rattle.std.proofs.Common.{IsTrue, List, None, length, ℕ, ◌<◌, ◌≡◌, ◌≤◌}
+use Rattle.disk_records.specs.Causes.{Unfailed}
+use Rattle.disk_records.specs.Frames.{IsPageOf, WritesIn}
 use Rattle.disk_records.specs.Packs.{Pack}
-use Rattle.disk_records.specs.Tapes.{DiskAlone, pack}
+use Rattle.disk_records.specs.Tapes.{DiskAlone, added, pack}
 use Rattle.hint_cache.specs.Caches.{address_in}
 use Rattle.page_seeking.specs.Seeking.{page_number}
-use Rattle.file_pages.specs.Releasing.{AreAfter, Follows, Halfway, KeepsEachHandy, ListsNoMore, ListsNoneGone}
+use Rattle.file_pages.specs.Releasing.{AreAfter, Follows, Halfway, KeepsEachHandy, KeepsOrFrees, ListsNoMore, ListsNoneGone}
 use Rattle.file_pages.proofs.releasing.release_rest.Given as goal
 
 abbrev pub invariant-loop-lower : goal.invariant-loop-lower
@@ -12,6 +14,9 @@ invariant-loop-lower g l =
     let now = g.D.Tape.tape l.disk in
     record {
       alone : DiskAlone old now;
+      unfailed : Unfailed old now;
+      frame : IsTrue g.D.Tape.told → WritesIn (IsPageOf l.fid (pack old)) (added old now);
+      bits : IsTrue g.D.Tape.told → KeepsOrFrees (pack now) l.fn.hints.table l.hints.table;
       sized : length l.hints.table ≡ length l.fn.hints.table;
       refused : l.hints.cache.refused ≡ l.fn.hints.cache.refused;
       handy : KeepsEachHandy l.fn.hints.cache l.hints.cache;

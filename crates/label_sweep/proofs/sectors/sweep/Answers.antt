@@ -1,4 +1,4 @@
-use Rattle.std.proofs.Common.{arith, rules}
+use Rattle.std.proofs.Common.{arith, refl, rules, ◌∙◌}
 use Rattle.disk_records.proofs.Looking.{looks_none, looks_twice}
 use Rattle.label_sweep.proofs.Sweeping.{swept_none, swept_more, swept_all}
 use Rattle.label_sweep.proofs.sectors.sweep.Goals as goal
@@ -9,6 +9,7 @@ loop-at-init g c =
     record {
       end = search rules;
       looks = looks_none _ first;
+      unfailed = refl;
       swept = swept_none _ _ first c.args.visitor.now (g.met.D.Disk.sized c.args.disk.now);
     }
 
@@ -22,6 +23,7 @@ loop-at-preserved g c =
     record {
       end = end;
       looks = looks_twice _ inv.looks c.in_ok-visit_sector.ensures.looks (omega arith);
+      unfailed = c.in_ok-visit_sector.ensures.cause ∙ inv.unfailed;
       swept = swept_more c.loop-at.at c.args.visitor.now c.loop-at.visitor c.visit_sector.new.visitor inv.looks (omega (arith, end)) (g.met.D.Disk.sized c.args.disk.now) inv.swept c.in_ok-visit_sector.ensures.seen;
     }
 

@@ -13,6 +13,7 @@ loop-at-preserved g c =
     let first = g.D.Tape.tape c.args.disk.now in
     record {
       looks = looks_twice (c.loop-at.at + 1 - 1) c.loop-at.invariant.looks c.in_ok-is_free.ensures.looks (omega arith);
+      unfailed = c.in_ok-is_free.ensures.cause ∙ c.loop-at.invariant.unfailed;
       end = c.loop-at.invariant.end;
       few = let one = most_one c.in_ok-is_free.field-0 in omega (arith, c.counted-free.ensures, one);
       counted = λ told.

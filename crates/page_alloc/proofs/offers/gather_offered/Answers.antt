@@ -84,6 +84,7 @@ loop-alloc-preserved g c =
     let one = most_one free in
     record {
       looks = looks_next bits from at (omega (arith, inv.first, offer.0)) offer.0 busy offered inv.looks c.in_ok-free.ensures.looks;
+      unfailed = c.in_ok-free.ensures.cause ∙ inv.unfailed;
       end = inv.end;
       sized = settled.sized ∙ inv.sized;
       offers = settled.offers ∙ inv.offers;

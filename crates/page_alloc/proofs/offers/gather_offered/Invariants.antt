@@ -1,5 +1,6 @@
 use Rattle.std.proofs.Common.{◌≡◌, ℕ, ◌-◌, ◌≤◌, IsTrue, length}
 use Rattle.disk_records.specs.Addresses.{pages_of}
+use Rattle.disk_records.specs.Causes.{Unfailed}
 use Rattle.disk_records.specs.Tapes.{Looks, pack}
 use Rattle.hint_cache.specs.Bits.{busy_at}
 use Rattle.page_alloc.specs.Free.{below, is_offered, is_offered_free, IsCorrected, IsRising}
@@ -12,6 +13,7 @@ invariant-loop-alloc g l =
     let now = g.D.Tape.tape l.disk in
     record {
       looks : Looks g.D.Tape.told (length (below (is_offered l.fn.table) l.from)) old now;
+      unfailed : Unfailed old now;
       end : l.end ≡ pages_of old.form;
       sized : length l.table ≡ length l.fn.table;
       offers : first_offers l.offered.offers l.table ≡ l.fn.table;

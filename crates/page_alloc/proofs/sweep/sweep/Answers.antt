@@ -38,6 +38,7 @@ loop-at-preserved g c =
     let lowest = c.loop-at.lowest.items in
     record {
       looks = looks_step (is_left offers) at _ (left_here offers at (omega arith)) inv.looks c.in_ok-is_free.ensures.looks;
+      unfailed = c.in_ok-is_free.ensures.cause ∙ inv.unfailed;
       end = inv.end;
       sized = c.in_ok-is_free.ensures.sized ∙ inv.sized;
       rising = subst (IsRising (at + 1)) (sym c.in_ok-list_free.ensures) (rising_listed c.args.wanted at is_free lowest (omega arith) inv.rising);

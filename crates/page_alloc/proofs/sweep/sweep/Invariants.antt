@@ -1,5 +1,6 @@
 use Rattle.std.proofs.Common.{◌≡◌, ◌<◌, min, IsTrue, length, take}
 use Rattle.disk_records.specs.Addresses.{pages_of}
+use Rattle.disk_records.specs.Causes.{Unfailed}
 use Rattle.disk_records.specs.Packs.{is_free_at}
 use Rattle.disk_records.specs.Tapes.{Looks, pack}
 use Rattle.page_alloc.specs.Free.{below, IsCorrected, IsRising}
@@ -12,6 +13,7 @@ invariant-loop-at g l =
     let now = g.D.Tape.tape l.disk in
     record {
       looks : Looks g.D.Tape.told (length (below (is_left l.offers) l.at)) old now;
+      unfailed : Unfailed old now;
       end : l.end ≡ pages_of old.form;
       sized : length l.table ≡ length l.fn.table;
       rising : IsRising l.at l.lowest.items;

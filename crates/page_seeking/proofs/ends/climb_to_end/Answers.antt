@@ -8,7 +8,7 @@ use Rattle.page_seeking.proofs.Seeking.{confirmed_before, known_before, known_la
 use Rattle.page_seeking.proofs.ends.climb_to_end.Goals as goal
 
 pub loop-number-init : goal.loop-number-init
-loop-number-init g c = record { sought = sought_more (omega arith) (sought_here (g.D.Tape.tape c.args.disk.now) c.args.cache.now); known = λ told k. k; start = λ is. (refl, (refl, refl)); found = λ less. absurd (omega arith) }
+loop-number-init g c = record { unfailed = refl; sought = sought_more (omega arith) (sought_here (g.D.Tape.tape c.args.disk.now) c.args.cache.now); known = λ told k. k; start = λ is. (refl, (refl, refl)); found = λ less. absurd (omega arith) }
 
 pub returns-in-Err-clause-sought : goal.returns-in-Err-clause-sought
 returns-in-Err-clause-sought g c = sought_more (omega arith) (sought_twice c.loop-number.invariant.sought c.follow.ensures.sought)
@@ -48,6 +48,7 @@ loop-number-preserved g c =
     let inv = c.loop-number.invariant in
     let next = c.in-Ok.ensures in
     record {
+      unfailed = c.in-Ok.ensures.cause ∙ c.loop-number.invariant.unfailed;
       sought = sought_more (omega arith) (sought_twice inv.sought c.follow.ensures.sought);
       known = λ told k. known_before inv.sought.looks (known_of next.found);
       start = λ is. absurd (omega (arith, is));

@@ -12,7 +12,7 @@ pub returns-in-Ok-clause-last : goal.returns-in-Ok-clause-last
 returns-in-Ok-clause-last g c told whole = is_last whole told (ends_of c.in-Ok.ensures.ends c.in-Ok.ensures.found)
 
 pub returns-in-Err-clause-cause : goal.returns-in-Err-clause-cause
-returns-in-Err-clause-cause g c = caused_length Below (g.D.Tape.tape c.args.disk.now) (g.D.Tape.tape c.seek_last.new.disk) c.in-Err.error c.in-Err.ensures.fault c.in-Err.ensures.never_beyond
+returns-in-Err-clause-cause g c = caused_length Below (g.D.Tape.tape c.args.disk.now) (g.D.Tape.tape c.seek_last.new.disk) c.in-Err.error c.in-Err.ensures.cause c.in-Err.ensures.never_beyond
 
 pub returns-in-Ok-clause-handy : goal.returns-in-Ok-clause-handy
 returns-in-Ok-clause-handy g c told = keeps_handy c.seek_last.ensures.sought told

@@ -21,7 +21,7 @@ returns-in-Ok-clause-most g c told once =
     omega (arith, most, is)
 
 pub returns-in-Err-clause-cause : goal.returns-in-Err-clause-cause
-returns-in-Err-clause-cause g c = caused_length Below (g.D.Tape.tape c.args.disk.now) (g.D.Tape.tape c.seek_last.new.disk) c.in-Err.error c.in-Err.ensures.fault c.in-Err.ensures.never_beyond
+returns-in-Err-clause-cause g c = caused_length Below (g.D.Tape.tape c.args.disk.now) (g.D.Tape.tape c.seek_last.new.disk) c.in-Err.error c.in-Err.ensures.cause c.in-Err.ensures.never_beyond
 
 pub returns-in-Ok-clause-handy : goal.returns-in-Ok-clause-handy
 returns-in-Ok-clause-handy g c told = keeps_handy c.seek_last.ensures.sought told

@@ -1,4 +1,4 @@
-use Rattle.std.proofs.Common.{◌≡◌, Err, arith, subst}
+use Rattle.std.proofs.Common.{◌≡◌, Err, arith, subst, refl, ◌∙◌}
 use Rattle.page_seeking.specs.declared.seek.Found.{Found}
 use Rattle.page_seeking.specs.Seeking.{page_number}
 use Rattle.page_seeking.specs.Inside.{Confirmed}
@@ -8,7 +8,7 @@ use Rattle.page_seeking.proofs.Seeking.{confirmed_before, known_before, known_la
 use Rattle.page_seeking.proofs.links.climb.Goals as goal
 
 pub loop-lower-init : goal.loop-lower-init
-loop-lower-init g c = record { sought = sought_more (omega arith) (sought_here (g.D.Tape.tape c.args.disk.now) c.args.cache.now); known = λ k. k; found = λ less. absurd (omega arith) }
+loop-lower-init g c = record { unfailed = refl; sought = sought_more (omega arith) (sought_here (g.D.Tape.tape c.args.disk.now) c.args.cache.now); known = λ k. k; found = λ less. absurd (omega arith) }
 
 pub returns-then-not-goes_on-clause-sought : goal.returns-then-not-goes_on-clause-sought
 returns-then-not-goes_on-clause-sought g c = sought_more (omega arith) c.loop-lower.invariant.sought
@@ -35,6 +35,7 @@ loop-lower-preserved g c =
     let inv = c.loop-lower.invariant in
     let next = c.in-Ok.ensures in
     record {
+      unfailed = c.in-Ok.ensures.cause ∙ c.loop-lower.invariant.unfailed;
       sought = sought_more (omega arith) (sought_twice inv.sought c.follow.ensures.sought);
       known = λ k. known_before inv.sought.looks (known_of next.found);
       found = λ less. confirmed_before inv.sought.looks inv.sought.refused next.found;

@@ -1,4 +1,5 @@
 use Rattle.std.proofs.Common.{◌-◌, ◌<◌}
+use Rattle.disk_records.specs.Causes.{Unfailed}
 use Rattle.disk_records.specs.Tapes.{pack}
 use Rattle.page_seeking.specs.Seeking.{page_number}
 use Rattle.page_seeking.specs.Inside.{Confirmed, Known, Sought}
@@ -10,6 +11,7 @@ invariant-loop-lower g l =
     let now = g.D.Tape.tape l.disk in
     record {
       sought : Sought g.D.Tape.told (l.lower - l.fn.below.number) old now l.fn.cache l.cache;
+      unfailed : Unfailed old now;
       known : Known g.D.Tape.told (pack old) old.form (page_number l.fid l.fn.below.number) l.fn.below.found → Known g.D.Tape.told (pack old) old.form (page_number l.fid l.lower) l.here;
       found : l.fn.below.number < l.lower → Confirmed g.D.Tape.told (page_number l.fid l.lower) old l.fn.cache l.cache l.buf l.here;
     }

@@ -4,12 +4,9 @@ use Rattle.page_seeking.specs.declared.seek.Found.{Found}
 use Rattle.page_seeking.specs.Inside.{Finds}
 use Rattle.page_seeking.proofs.Easing.{eases_of, finds_of, keeps_handy}
 use Rattle.page_seeking.proofs.Ending.{end_is_length}
-use Rattle.page_seeking.proofs.Erring.{caused, if_beyond_map}
+use Rattle.page_seeking.proofs.Erring.{if_beyond_map}
 use Rattle.page_seeking.proofs.TrueLinks.{never_led}
 use Rattle.page_seeking.proofs.pages.locate.Goals as goal
-
-pub returns-in-Err-clause-cause : goal.returns-in-Err-clause-cause
-returns-in-Err-clause-cause g c = caused Found (g.D.Tape.tape c.args.disk.now) (g.D.Tape.tape c.seek_page.new.disk) c.in-Err.error c.in-Err.ensures.fault
 
 pub returns-in-Err-clause-beyond : goal.returns-in-Err-clause-beyond
 returns-in-Err-clause-beyond g c told whole = if_beyond_map {T = Found} (Err c.in-Err.error) (c.in-Err.ensures.ends told) (λ n x. end_is_length (pack (g.D.Tape.tape c.args.disk.now)) c.args.file.now.fid c.args.number n whole x)

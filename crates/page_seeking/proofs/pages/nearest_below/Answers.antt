@@ -1,4 +1,4 @@
-use Rattle.std.proofs.Common.{◌≡◌, ap, length, arith, subst, ◌∙◌}
+use Rattle.std.proofs.Common.{◌≡◌, ap, length, arith, subst, ◌∙◌, refl}
 use Rattle.disk_records.specs.declared.records.Page.{Page}
 use Rattle.disk_records.specs.Packs.{Pack, carried}
 use Rattle.disk_records.specs.Tapes.{pack}
@@ -14,7 +14,7 @@ use Rattle.page_seeking.proofs.pages.nearest_below.Goals as goal
 pub loop-entry-init : goal.loop-entry-init
 loop-entry-init g c =
     let few = c.refused-refused.ensures.kept.few in
-    record { below = omega arith; sought = sought_more (omega arith) (sought_here (g.D.Tape.tape c.args.disk.now) c.args.cache.now); spent = λ told. omega (arith, few); quick = λ at told eases. omega arith }
+    record { below = omega arith; unfailed = refl; sought = sought_more (omega arith) (sought_here (g.D.Tape.tape c.args.disk.now) c.args.cache.now); spent = λ told. omega (arith, few); quick = λ at told eases. omega arith }
 
 pub returns-in_err-found-clause-sought : goal.returns-in_err-found-clause-sought
 returns-in_err-found-clause-sought g c =
@@ -58,6 +58,7 @@ loop-entry-preserved g c =
     let same = ap (λ x. length x.entries) missed in
     record {
       below = let below = some.below in let low = inv.below in omega (arith, below, low);
+      unfailed = c.in_ok-found.ensures.cause ∙ c.loop-entry.invariant.unfailed;
       sought = sought_within (sought_forgotten entry.page c.forget.ensures.out (sought_twice inv.sought c.try_at.ensures.sought)) (λ told. omega (arith, gone, cut, same, inv.spent told, c.try_at.ensures.sought.looks.runs told));
       spent = λ told. omega (arith, gone, cut, same, inv.spent told, c.try_at.ensures.sought.looks.runs told);
       quick = λ at told eases.

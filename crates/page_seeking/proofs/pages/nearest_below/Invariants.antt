@@ -1,4 +1,5 @@
 use Rattle.std.proofs.Common.{ℕ, ◌+◌, ◌≤◌, IsTrue, length}
+use Rattle.disk_records.specs.Causes.{Unfailed}
 use Rattle.disk_records.specs.Tapes.{pack}
 use Rattle.page_seeking.specs.Inside.{Eases, Sought}
 use Rattle.page_seeking.proofs.pages.nearest_below.Given as goal
@@ -10,6 +11,7 @@ invariant-loop-entry g l =
     record {
       below : l.above ≤ l.page.number;
       sought : Sought g.D.Tape.told 48 old now l.fn.cache l.cache;
+      unfailed : Unfailed old now;
       spent : IsTrue g.D.Tape.told → now.runs + length l.cache.entries ≤ old.runs + 48;
       quick : (at : ℕ) → IsTrue g.D.Tape.told → Eases (pack old) l.page.fid l.page.number at l.fn.cache → now.runs ≤ old.runs;
     }

@@ -102,6 +102,7 @@ loop-number-init g c =
       last = λ low few some. let upto = c.requires.upto in let first = c.requires.data in inl (omega (arith, low, few, some, upto, first));
       found = λ less. absurd (omega (arith, less));
       reached = λ less. absurd (omega (arith, less));
+      unfailed = refl;
       sought = sought_more (omega arith) (sought_here (g.D.Tape.tape c.args.disk.now) c.args.cache.now);
       known = λ told k. k;
       before = λ told once b k. b;
@@ -189,6 +190,7 @@ loop-number-preserved g c =
                 let kept = empty_after c.args.below (c.args.offset + done) c.follow.new.cache from c.follow.ensures.sought.refused inv.sought.refused inv.start inv.found mine c.in-Ok.ensures.keeps in
                 inr (empty, subst (λ e. LastListed g.D.Tape.told (g.D.Tape.tape c.args.disk.now) c.args.fid c.args.below e c.args.cache.now c.follow.new.cache) (sym end) kept)
           ];
+      unfailed = c.in-Ok.ensures.cause ∙ c.loop-number.invariant.unfailed;
       sought = sought_more (omega arith) (sought_twice inv.sought c.follow.ensures.sought);
       known = λ told k. known_before inv.sought.looks (known_of next.found);
       before = before;

@@ -1,4 +1,5 @@
 use Rattle.std.proofs.Common.{ℕ, ◌+◌, ◌-◌, ◌*◌, ◌<◌, ◌≤◌, ◌≡◌, ◌⊎◌, List, length, IsTrue}
+use Rattle.disk_records.specs.Causes.{Unfailed}
 use Rattle.disk_records.specs.Tapes.{pack}
 use Rattle.laws_contents.specs.PageLaws.{FullBefore}
 use Rattle.pack_model.specs.operations.Committing.{page_of_byte}
@@ -25,6 +26,7 @@ invariant-loop-number g l =
       reached : l.fn.below.number < l.number → l.done ≡ length l.out → 512 * (l.number - 1) < l.offset + l.done;
       last : 512 * (l.fn.below.number - 1) ≤ l.offset → l.fn.below.found.info.bytes ≤ 512 → 1 ≤ l.done → (page_of_byte (l.offset + l.done - 1) ≡ l.number) ⊎ ((l.here.info.bytes ≡ 0) × LastListed g.D.Tape.told old l.fid l.fn.below (l.offset + l.done) l.fn.cache l.cache);
       sought : Sought g.D.Tape.told (l.number - l.fn.below.number) old now l.fn.cache l.cache;
+      unfailed : Unfailed old now;
       known : IsTrue g.D.Tape.told → Known g.D.Tape.told (pack old) old.form (page_number l.fid l.fn.below.number) l.fn.below.found → Known g.D.Tape.told (pack old) old.form (page_number l.fid l.number) l.here;
       before : IsTrue g.D.Tape.told → EachOnce (sights (pack old)) → FullBefore (pack old) l.fid (l.fn.below.number - 1) → Known g.D.Tape.told (pack old) old.form (page_number l.fid l.fn.below.number) l.fn.below.found → FullBefore (pack old) l.fid (l.number - 1);
       read : (first : List ℕ) → IsTrue g.D.Tape.told → EachOnce (sights (pack old)) → FullBefore (pack old) l.fid (l.fn.below.number - 1) → Known g.D.Tape.told (pack old) old.form (page_number l.fid l.fn.below.number) l.fn.below.found → IsReadTo (file_bytes (sights (pack old)) l.fid) l.offset l.fn.front first l.fn.out → IsReadTo (file_bytes (sights (pack old)) l.fid) l.offset l.done first l.out;

@@ -1,14 +1,10 @@
 use Rattle.std.proofs.Common.{ℕ, Err, []}
 use Rattle.disk_records.specs.Tapes.{pack}
 use Rattle.page_seeking.proofs.Easing.{keeps_handy}
-use Rattle.page_seeking.proofs.Erring.{caused}
 use Rattle.page_seeking.proofs.Once.{full_before_byte, once_of_whole}
 use Rattle.page_seeking.proofs.Stopping.{lists_end, lists_next}
 use Rattle.page_seeking.proofs.TrueLinks.{never_led}
 use Rattle.page_seeking.proofs.read.read_part.Goals as goal
-
-pub returns-in-Err-clause-cause : goal.returns-in-Err-clause-cause
-returns-in-Err-clause-cause g c = caused ℕ (g.D.Tape.tape c.args.disk.now) (g.D.Tape.tape c.read_pages.new.disk) c.in-Err.error c.in-Err.ensures.fault
 
 pub returns-in-Ok-clause-read : goal.returns-in-Ok-clause-read
 returns-in-Ok-clause-read g c told whole = c.in-Ok.ensures.read told (once_of_whole (pack (g.D.Tape.tape c.args.disk.now)) whole) (c.in-Ok.ensures.reached told whole)

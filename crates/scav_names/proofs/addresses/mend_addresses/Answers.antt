@@ -1,6 +1,7 @@
-use Rattle.std.proofs.Common.{◌≡◌, get_or, sym, subst, ◌∙◌}
+use Rattle.std.proofs.Common.{◌≡◌, get_or, sym, subst, ◌∙◌, refl}
 use Rattle.disk_records.specs.Tapes.{pack}
 use Rattle.disk_records.proofs.Growing.{alone_here}
+use Rattle.disk_records.proofs.Framing.{usable_here}
 use Rattle.scav_pages.specs.declared.errors.Stop.TheVariants.{Memory}
 use Rattle.scav_pages.proofs.Causing.{cause_of_part}
 use Rattle.scav_names.specs.Parts.{AddressesTrue}
@@ -22,7 +23,7 @@ returns-clause-does g c = λ told may.
     does_writes {Leaves = AddressesTrue} c.write_words.result c.write_words.ensures.alone.grown wrote runs.keeps (words_change (pack a) (address_words files kept)) runs.mended
 
 pub returns-in_err-words-clause-cause : goal.returns-in_err-words-clause-cause
-returns-in_err-words-clause-cause g c = cause_of_part Memory c.from_residual.result (alone_here (g.D.Tape.tape c.args.disk.now)) (alone_here _) tt c.from_residual.ensures.1
+returns-in_err-words-clause-cause g c = cause_of_part Memory c.from_residual.result (alone_here (g.D.Tape.tape c.args.disk.now)) refl (alone_here _) refl c.from_residual.ensures.1
 
 pub returns-clause-cause : goal.returns-clause-cause
 returns-clause-cause g c = c.write_words.ensures.cause
@@ -33,5 +34,11 @@ returns-in_err-words-clause-does g c = λ told may. does_stop Memory c.from_resi
 pub returns-in_err-words-clause-alone : goal.returns-in_err-words-clause-alone
 returns-in_err-words-clause-alone g c = alone_here _
 
+pub returns-in_err-words-clause-frame : goal.returns-in_err-words-clause-frame
+returns-in_err-words-clause-frame g c = usable_here (g.D.Tape.tape c.args.disk.now)
+
 pub returns-clause-alone : goal.returns-clause-alone
 returns-clause-alone g c = c.write_words.ensures.alone
+
+pub returns-clause-frame : goal.returns-clause-frame
+returns-clause-frame g c = c.write_words.ensures.frame

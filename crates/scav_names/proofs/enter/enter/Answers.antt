@@ -1,7 +1,8 @@
-use Rattle.std.proofs.Common.{refl, sym, subst}
+use Rattle.std.proofs.Common.{refl, sym, subst, ◌∙◌}
 use Rattle.alto_words.specs.Fid.{sys_dir}
 use Rattle.disk_records.specs.Tapes.{pack}
 use Rattle.disk_records.proofs.Growing.{alone_here, alone_twice}
+use Rattle.disk_records.proofs.Framing.{usable_twice}
 use Rattle.pack_model.specs.hints.Links.{dir_words}
 use Rattle.pack_model.specs.reading.Slots.{slots}
 use Rattle.scav_pages.specs.declared.errors.Stop.TheVariants.{Memory}
@@ -14,6 +15,9 @@ use Rattle.scav_names.proofs.enter.enter.Goals as goal
 pub returns-in_err-write_entry-clause-alone : goal.returns-in_err-write_entry-clause-alone
 returns-in_err-write_entry-clause-alone g c = alone_twice c.in_ok-room.ensures.alone c.in_err-write_entry.ensures.alone
 
+pub returns-in_err-write_entry-clause-frame : goal.returns-in_err-write_entry-clause-frame
+returns-in_err-write_entry-clause-frame g c = usable_twice c.in_ok-room.ensures.alone c.in_err-write_entry.ensures.alone c.in_ok-room.ensures.frame c.in_err-write_entry.ensures.frame
+
 pub returns-in_err-write_entry-clause-does : goal.returns-in_err-write_entry-clause-does
 returns-in_err-write_entry-clause-does g c = λ told todo may.
     let a = g.D.Tape.tape c.args.disk.now in
@@ -24,6 +28,9 @@ returns-in_err-write_entry-clause-does g c = λ told todo may.
 pub returns-in_err-fill-clause-alone : goal.returns-in_err-fill-clause-alone
 returns-in_err-fill-clause-alone g c = alone_twice c.in_ok-room.ensures.alone c.in_ok-write_entry.ensures.alone
 
+pub returns-in_err-fill-clause-frame : goal.returns-in_err-fill-clause-frame
+returns-in_err-fill-clause-frame g c = usable_twice c.in_ok-room.ensures.alone c.in_ok-write_entry.ensures.alone c.in_ok-room.ensures.frame c.in_ok-write_entry.ensures.frame
+
 pub returns-in_err-fill-clause-does : goal.returns-in_err-fill-clause-does
 returns-in_err-fill-clause-does g c = λ told todo may.
     let a = g.D.Tape.tape c.args.disk.now in
@@ -33,6 +40,9 @@ returns-in_err-fill-clause-does g c = λ told todo may.
 
 pub returns-clause-alone : goal.returns-clause-alone
 returns-clause-alone g c = alone_twice c.in_ok-room.ensures.alone c.in_ok-write_entry.ensures.alone
+
+pub returns-clause-frame : goal.returns-clause-frame
+returns-clause-frame g c = usable_twice c.in_ok-room.ensures.alone c.in_ok-write_entry.ensures.alone c.in_ok-room.ensures.frame c.in_ok-write_entry.ensures.frame
 
 pub returns-clause-does : goal.returns-clause-does
 returns-clause-does g c = λ told todo may.
@@ -49,19 +59,22 @@ returns-clause-does g c = λ told todo may.
     (entered_after made.leaves.stay (entered made.leaves.may.may wrote.leaves refl refl rooms))
 
 pub returns-in_err-room-clause-cause : goal.returns-in_err-room-clause-cause
-returns-in_err-room-clause-cause g c = cause_of_part c.in_err-room.field-0.0 c.from_residual.result (alone_here _) c.in_err-room.ensures.alone c.in_err-room.ensures.cause c.from_residual.ensures.1
+returns-in_err-room-clause-cause g c = cause_of_part c.in_err-room.field-0.0 c.from_residual.result (alone_here _) refl c.in_err-room.ensures.alone c.in_err-room.ensures.cause c.from_residual.ensures.1
 
 pub returns-in_err-write_entry-clause-cause : goal.returns-in_err-write_entry-clause-cause
-returns-in_err-write_entry-clause-cause g c = cause_of_part c.in_err-write_entry.field-0.0 c.from_residual-in_err-write_entry.result c.in_ok-room.ensures.alone c.in_err-write_entry.ensures.alone c.in_err-write_entry.ensures.cause c.from_residual-in_err-write_entry.ensures.1
+returns-in_err-write_entry-clause-cause g c = cause_of_part c.in_err-write_entry.field-0.0 c.from_residual-in_err-write_entry.result c.in_ok-room.ensures.alone c.in_ok-room.ensures.cause c.in_err-write_entry.ensures.alone c.in_err-write_entry.ensures.cause c.from_residual-in_err-write_entry.ensures.1
 
 pub returns-in_err-fill-clause-cause : goal.returns-in_err-fill-clause-cause
-returns-in_err-fill-clause-cause g c = cause_of_part Memory c.from_residual-in_err-fill.result (alone_twice c.in_ok-room.ensures.alone c.in_ok-write_entry.ensures.alone) (alone_here _) tt c.from_residual-in_err-fill.ensures.1
+returns-in_err-fill-clause-cause g c = cause_of_part Memory c.from_residual-in_err-fill.result (alone_twice c.in_ok-room.ensures.alone c.in_ok-write_entry.ensures.alone) (c.in_ok-write_entry.ensures.cause ∙ c.in_ok-room.ensures.cause) (alone_here _) refl c.from_residual-in_err-fill.ensures.1
 
 pub returns-in_err-room-clause-alone : goal.returns-in_err-room-clause-alone
 returns-in_err-room-clause-alone g c = c.in_err-room.ensures.alone
+
+pub returns-in_err-room-clause-frame : goal.returns-in_err-room-clause-frame
+returns-in_err-room-clause-frame g c = c.in_err-room.ensures.frame
 
 pub returns-in_err-room-clause-first : goal.returns-in_err-room-clause-first
 returns-in_err-room-clause-first g c = c.in_err-room.ensures.first
 
 pub returns-clause-cause : goal.returns-clause-cause
-returns-clause-cause g c = tt
+returns-clause-cause g c = c.in_ok-write_entry.ensures.cause ∙ c.in_ok-room.ensures.cause

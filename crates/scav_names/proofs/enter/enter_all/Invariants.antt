@@ -1,4 +1,6 @@
 use Rattle.std.proofs.Common.{◌≤◌, IsTrue, drop}
+use Rattle.disk_records.specs.Causes.{Unfailed}
+use Rattle.disk_records.specs.Frames.{WritesUsable}
 use Rattle.disk_records.specs.Tapes.{DiskAlone, pack}
 use Rattle.scav_names.specs.Roots.{MayBeEntered}
 use Rattle.scav_names.proofs.NextEntry.{EnteredTo}
@@ -11,5 +13,7 @@ invariant-loop-file g l =
     record {
       first : 1 ≤ l.root.from;
       alone : DiskAlone old now;
+      unfailed : Unfailed old now;
+      frame : WritesUsable g.D.Tape.told old now;
       entered : IsTrue g.D.Tape.told → MayBeEntered (pack old) l.fn.root l.files → EnteredTo old now l.root (drop l.file-index l.files);
     }

@@ -1,7 +1,8 @@
-use Rattle.std.proofs.Common.{◌∷◌, arith}
+use Rattle.std.proofs.Common.{◌∷◌, arith, refl}
 use Rattle.alto_words.specs.Fid.{sys_dir}
 use Rattle.disk_records.specs.Tapes.{pack}
 use Rattle.disk_records.proofs.Growing.{alone_here}
+use Rattle.disk_records.proofs.Framing.{usable_here}
 use Rattle.pack_model.specs.hints.Links.{dir_words}
 use Rattle.pack_model.specs.reading.Slots.{slots}
 use Rattle.scav_pages.proofs.Causing.{cause_of_part}
@@ -33,7 +34,7 @@ returns-in-None-clause-does g c = λ told next todo is may.
     absurd (room_comes c.args.words is wide.leaves (c.in-None.ensures.room (slots (dir_words (pack b) sys_dir)) wide.leaves.may.rooms))
 
 pub returns-in_err-widen_root-clause-cause : goal.returns-in_err-widen_root-clause-cause
-returns-in_err-widen_root-clause-cause g c = cause_of_part c.in_err-widen_root.field-0.0 c.from_residual.result (alone_here _) c.in_err-widen_root.ensures.alone c.in_err-widen_root.ensures.cause c.from_residual.ensures.1
+returns-in_err-widen_root-clause-cause g c = cause_of_part c.in_err-widen_root.field-0.0 c.from_residual.result (alone_here _) refl c.in_err-widen_root.ensures.alone c.in_err-widen_root.ensures.cause c.from_residual.ensures.1
 
 pub returns-in-Some-clause-does : goal.returns-in-Some-clause-does
 returns-in-Some-clause-does g c = λ told next todo is may. does_ok c.in-Some.room (so_far_here (g.D.Tape.tape c.args.disk.now)) (room_there c.args.words c.in-Some.room is may (c.in-Some.ensures.room (slots (dir_words (pack (g.D.Tape.tape c.args.disk.now)) sys_dir)) may.rooms))
@@ -42,10 +43,13 @@ pub returns-in-Some-clause-first : goal.returns-in-Some-clause-first
 returns-in-Some-clause-first g c = c.requires.first
 
 pub returns-in-Some-clause-cause : goal.returns-in-Some-clause-cause
-returns-in-Some-clause-cause g c = tt
+returns-in-Some-clause-cause g c = refl
 
 pub returns-in-Some-clause-alone : goal.returns-in-Some-clause-alone
 returns-in-Some-clause-alone g c = alone_here _
+
+pub returns-in-Some-clause-frame : goal.returns-in-Some-clause-frame
+returns-in-Some-clause-frame g c = usable_here (g.D.Tape.tape c.args.disk.now)
 
 pub returns-in_err-widen_root-clause-first : goal.returns-in_err-widen_root-clause-first
 returns-in_err-widen_root-clause-first g c = c.in_err-widen_root.ensures.first
@@ -53,20 +57,29 @@ returns-in_err-widen_root-clause-first g c = c.in_err-widen_root.ensures.first
 pub returns-in_err-widen_root-clause-alone : goal.returns-in_err-widen_root-clause-alone
 returns-in_err-widen_root-clause-alone g c = c.in_err-widen_root.ensures.alone
 
+pub returns-in_err-widen_root-clause-frame : goal.returns-in_err-widen_root-clause-frame
+returns-in_err-widen_root-clause-frame g c = c.in_err-widen_root.ensures.frame
+
 pub returns-in-Some-find-clause-first : goal.returns-in-Some-find-clause-first
 returns-in-Some-find-clause-first g c = c.in_ok-widen_root.ensures.first
 
 pub returns-in-Some-find-clause-cause : goal.returns-in-Some-find-clause-cause
-returns-in-Some-find-clause-cause g c = tt
+returns-in-Some-find-clause-cause g c = c.in_ok-widen_root.ensures.cause
 
 pub returns-in-Some-find-clause-alone : goal.returns-in-Some-find-clause-alone
 returns-in-Some-find-clause-alone g c = c.in_ok-widen_root.ensures.alone
+
+pub returns-in-Some-find-clause-frame : goal.returns-in-Some-find-clause-frame
+returns-in-Some-find-clause-frame g c = c.in_ok-widen_root.ensures.frame
 
 pub returns-in-None-clause-first : goal.returns-in-None-clause-first
 returns-in-None-clause-first g c = c.in_ok-widen_root.ensures.first
 
 pub returns-in-None-clause-cause : goal.returns-in-None-clause-cause
-returns-in-None-clause-cause g c = tt
+returns-in-None-clause-cause g c = c.in_ok-widen_root.ensures.cause
 
 pub returns-in-None-clause-alone : goal.returns-in-None-clause-alone
 returns-in-None-clause-alone g c = c.in_ok-widen_root.ensures.alone
+
+pub returns-in-None-clause-frame : goal.returns-in-None-clause-frame
+returns-in-None-clause-frame g c = c.in_ok-widen_root.ensures.frame

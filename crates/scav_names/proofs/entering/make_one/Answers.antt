@@ -1,6 +1,7 @@
-use Rattle.std.proofs.Common.{◌/◌, [], ◌∷◌, get_or}
+use Rattle.std.proofs.Common.{◌/◌, [], ◌∷◌, get_or, refl}
 use Rattle.disk_records.specs.Tapes.{pack}
 use Rattle.disk_records.proofs.Growing.{alone_here}
+use Rattle.disk_records.proofs.Framing.{usable_here}
 use Rattle.pack_model.specs.operations.PageWords.{in_page}
 use Rattle.scav_names.proofs.Going.{does_ok, so_far_here}
 use Rattle.scav_names.proofs.OneRoom.{one_already, place_known, several_keep, several_made}
@@ -19,10 +20,16 @@ pub returns-clause-cause : goal.returns-clause-cause
 returns-clause-cause g c = c.put_in_root.ensures.cause
 
 pub returns-then-room-clause-cause : goal.returns-then-room-clause-cause
-returns-then-room-clause-cause g c = tt
+returns-then-room-clause-cause g c = refl
 
 pub returns-then-room-clause-alone : goal.returns-then-room-clause-alone
 returns-then-room-clause-alone g c = alone_here _
 
+pub returns-then-room-clause-frame : goal.returns-then-room-clause-frame
+returns-then-room-clause-frame g c = usable_here (g.D.Tape.tape c.args.disk.now)
+
 pub returns-clause-alone : goal.returns-clause-alone
 returns-clause-alone g c = c.put_in_root.ensures.alone
+
+pub returns-clause-frame : goal.returns-clause-frame
+returns-clause-frame g c = c.put_in_root.ensures.frame

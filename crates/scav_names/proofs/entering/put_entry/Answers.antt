@@ -1,8 +1,9 @@
-use Rattle.std.proofs.Common.{◌≡◌, ◌+◌, ◌/◌, ◌<◌, ◌≤◌, ◌++◌, get_or, length, sym, ap, subst, ◌∙◌, arith}
+use Rattle.std.proofs.Common.{◌≡◌, ◌+◌, ◌/◌, ◌<◌, ◌≤◌, ◌++◌, get_or, length, sym, ap, subst, ◌∙◌, arith, refl}
 use Rattle.std.proofs.lemmas.List.{length-append, take-append-drop}
 use Rattle.disk_records.specs.Packs.{Pack}
 use Rattle.disk_records.specs.Tapes.{pack}
 use Rattle.disk_records.proofs.Growing.{alone_here, alone_twice}
+use Rattle.disk_records.proofs.Framing.{usable_twice}
 use Rattle.pack_model.specs.operations.PageWords.{in_page}
 use Rattle.scav_pages.proofs.Causing.{cause_of_part, cause_sooner}
 use Rattle.scav_names.specs.Roots.{EntryWritten, IsLater}
@@ -27,6 +28,9 @@ returns-in_err-put_later-clause-does g c = λ told next todo room may are at.
 
 pub returns-clause-alone : goal.returns-clause-alone
 returns-clause-alone g c = alone_twice c.in_ok-put_later.ensures.alone c.put_in_root.ensures.alone
+
+pub returns-clause-frame : goal.returns-clause-frame
+returns-clause-frame g c = usable_twice c.in_ok-put_later.ensures.alone c.put_in_root.ensures.alone c.in_ok-put_later.ensures.frame c.put_in_root.ensures.frame
 
 pub returns-clause-does : goal.returns-clause-does
 returns-clause-does g c = λ told next todo room may are at.
@@ -57,7 +61,7 @@ returns-clause-does g c = λ told next todo room may are at.
     (λ ok. ok)
 
 pub returns-in_err-put_later-clause-cause : goal.returns-in_err-put_later-clause-cause
-returns-in_err-put_later-clause-cause g c = cause_of_part c.in_err-put_later.field-0.0 c.from_residual.result (alone_here _) c.in_err-put_later.ensures.alone c.in_err-put_later.ensures.cause c.from_residual.ensures.1
+returns-in_err-put_later-clause-cause g c = cause_of_part c.in_err-put_later.field-0.0 c.from_residual.result (alone_here _) refl c.in_err-put_later.ensures.alone c.in_err-put_later.ensures.cause c.from_residual.ensures.1
 
 pub returns-clause-cause : goal.returns-clause-cause
-returns-clause-cause g c = cause_sooner (g.D.Tape.tape c.args.disk.now) (g.D.Tape.tape c.put_later.new.disk) (g.D.Tape.tape c.put_in_root.new.disk) c.put_in_root.result c.in_ok-put_later.ensures.alone.grown c.put_in_root.ensures.cause
+returns-clause-cause g c = cause_sooner (g.D.Tape.tape c.args.disk.now) (g.D.Tape.tape c.put_later.new.disk) (g.D.Tape.tape c.put_in_root.new.disk) c.put_in_root.result c.in_ok-put_later.ensures.cause c.put_in_root.ensures.cause

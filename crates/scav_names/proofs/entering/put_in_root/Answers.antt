@@ -1,9 +1,10 @@
-use Rattle.std.proofs.Common.{◌≡◌, ◌≢◌, ◌+◌, ◌/◌, ◌<◌, get_or, Err, None, Some, sym, ap, subst, ◌∙◌}
+use Rattle.std.proofs.Common.{◌≡◌, ◌≢◌, ◌+◌, ◌/◌, ◌<◌, get_or, Err, None, Some, sym, ap, subst, ◌∙◌, refl}
 use Rattle.disk_records.specs.Addresses.{pages_of}
 use Rattle.disk_records.specs.Packs.{carried}
 use Rattle.disk_records.specs.Tapes.{pack}
 use Rattle.disk_records.specs.Causes.{IsCause}
 use Rattle.disk_records.proofs.Growing.{alone_here}
+use Rattle.disk_records.proofs.Framing.{usable_here}
 use Rattle.scav_names.specs.Words.{WritesPageWords, page_writes, page_with}
 use Rattle.pack_model.specs.operations.PageWords.{in_page}
 use Rattle.alto_words.specs.Fid.{sys_dir}
@@ -30,7 +31,7 @@ returns-clause-writes g c = λ told pages within.
     subst (λ i. WritesPageWords (page_writes (pack a) i (in_page c.args.place) c.args.words.now) a (g.D.Tape.tape c.put_words.new.disk) c.put_words.result) at (c.put_words.ensures.writes told here)
 
 pub returns-in_err-found-clause-cause : goal.returns-in_err-found-clause-cause
-returns-in_err-found-clause-cause g c = cause_of_part c.in_err-found.field-0.0 c.from_residual.result (alone_here (g.D.Tape.tape c.args.disk.now)) (alone_here _) (subst (λ s. IsCause (g.D.Tape.tape c.args.disk.now) (g.D.Tape.tape c.args.disk.now) (cause_of_stop s)) (sym c.in_err-found.ensures.astray) tt) c.from_residual.ensures.1
+returns-in_err-found-clause-cause g c = cause_of_part c.in_err-found.field-0.0 c.from_residual.result (alone_here (g.D.Tape.tape c.args.disk.now)) refl (alone_here _) (subst (λ s. IsCause (g.D.Tape.tape c.args.disk.now) (g.D.Tape.tape c.args.disk.now) (cause_of_stop s)) (sym c.in_err-found.ensures.astray) refl) c.from_residual.ensures.1
 
 pub returns-clause-cause : goal.returns-clause-cause
 returns-clause-cause g c = c.put_words.ensures.cause
@@ -38,8 +39,14 @@ returns-clause-cause g c = c.put_words.ensures.cause
 pub returns-in_err-found-clause-alone : goal.returns-in_err-found-clause-alone
 returns-in_err-found-clause-alone g c = alone_here _
 
+pub returns-in_err-found-clause-frame : goal.returns-in_err-found-clause-frame
+returns-in_err-found-clause-frame g c = usable_here (g.D.Tape.tape c.args.disk.now)
+
 pub returns-clause-alone : goal.returns-clause-alone
 returns-clause-alone g c = c.put_words.ensures.alone
+
+pub returns-clause-frame : goal.returns-clause-frame
+returns-clause-frame g c = c.put_words.ensures.frame
 
 pub put_words-requires-clause-first : goal.put_words-requires-clause-first
 put_words-requires-clause-first g c = c.in_ok-found.ensures.first

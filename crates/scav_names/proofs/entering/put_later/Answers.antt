@@ -1,6 +1,7 @@
 use Rattle.std.proofs.Common.{◌≡◌, ℕ, ◌+◌, ◌/◌, ◌<◌, ◌≤◌, List, [], ◌∷◌, get_or, length, refl, ap, subst, ◌∙◌, arith, rules}
 use Rattle.disk_records.specs.Tapes.{pack}
 use Rattle.disk_records.proofs.Growing.{alone_here}
+use Rattle.disk_records.proofs.Framing.{usable_here}
 use Rattle.pack_model.specs.operations.PageWords.{in_page}
 use Rattle.scav_names.specs.Roots.{IsLater, LaterWritten}
 use Rattle.scav_names.specs.Words.{WritesPageWords, page_writes}
@@ -51,16 +52,25 @@ pub returns-clause-cause : goal.returns-clause-cause
 returns-clause-cause g c = c.put_in_root.ensures.cause
 
 pub returns-then-is_empty-clause-cause : goal.returns-then-is_empty-clause-cause
-returns-then-is_empty-clause-cause g c = tt
+returns-then-is_empty-clause-cause g c = refl
 
 pub returns-then-is_empty-clause-alone : goal.returns-then-is_empty-clause-alone
 returns-then-is_empty-clause-alone g c = alone_here _
 
+pub returns-then-is_empty-clause-frame : goal.returns-then-is_empty-clause-frame
+returns-then-is_empty-clause-frame g c = usable_here (g.D.Tape.tape c.args.disk.now)
+
 pub returns-in_default-clause-cause : goal.returns-in_default-clause-cause
-returns-in_default-clause-cause g c = tt
+returns-in_default-clause-cause g c = refl
 
 pub returns-in_default-clause-alone : goal.returns-in_default-clause-alone
 returns-in_default-clause-alone g c = alone_here _
 
+pub returns-in_default-clause-frame : goal.returns-in_default-clause-frame
+returns-in_default-clause-frame g c = usable_here (g.D.Tape.tape c.args.disk.now)
+
 pub returns-clause-alone : goal.returns-clause-alone
 returns-clause-alone g c = c.put_in_root.ensures.alone
+
+pub returns-clause-frame : goal.returns-clause-frame
+returns-clause-frame g c = c.put_in_root.ensures.frame

@@ -3,6 +3,7 @@ use Rattle.alto_words.specs.Fid.{is_full_name}
 use Rattle.std.proofs.lemmas.List.Elements.{All-head}
 use Rattle.disk_records.specs.Tapes.{pack}
 use Rattle.disk_records.proofs.Growing.{alone_here, alone_twice}
+use Rattle.disk_records.proofs.Framing.{usable_here, usable_twice}
 use Rattle.scav_pages.specs.declared.errors.Stop.TheVariants.{Memory}
 use Rattle.scav_pages.proofs.Causing.{cause_of_part, cause_sooner}
 use Rattle.scav_names.specs.Roots.{AreEntryWords, EntryWritten, IsLed}
@@ -24,6 +25,9 @@ returns-in_err-make_one-clause-does g c = λ told todo may.
 
 pub returns-clause-alone : goal.returns-clause-alone
 returns-clause-alone g c = alone_twice c.in_ok-make_one.ensures.alone c.put_entry.ensures.alone
+
+pub returns-clause-frame : goal.returns-clause-frame
+returns-clause-frame g c = usable_twice c.in_ok-make_one.ensures.alone c.put_entry.ensures.alone c.in_ok-make_one.ensures.frame c.put_entry.ensures.frame
 
 pub returns-clause-does : goal.returns-clause-does
 returns-clause-does g c = λ told todo may.
@@ -47,19 +51,22 @@ returns-clause-does g c = λ told todo may.
     (c.put_entry.ensures.does told file todo room one.leaves.may are refl) (entry_if (pack (g.D.Tape.tape c.put_entry.new.disk)) c.put_entry.result one.leaves)
 
 pub returns-in_err-words-clause-cause : goal.returns-in_err-words-clause-cause
-returns-in_err-words-clause-cause g c = cause_of_part Memory c.from_residual.result (alone_here (g.D.Tape.tape c.args.disk.now)) (alone_here _) tt c.from_residual.ensures.1
+returns-in_err-words-clause-cause g c = cause_of_part Memory c.from_residual.result (alone_here (g.D.Tape.tape c.args.disk.now)) refl (alone_here _) refl c.from_residual.ensures.1
 
 pub returns-in_err-make_one-clause-cause : goal.returns-in_err-make_one-clause-cause
-returns-in_err-make_one-clause-cause g c = cause_of_part c.in_err-make_one.field-0.0 c.from_residual-in_err-make_one.result (alone_here _) c.in_err-make_one.ensures.alone c.in_err-make_one.ensures.cause c.from_residual-in_err-make_one.ensures.1
+returns-in_err-make_one-clause-cause g c = cause_of_part c.in_err-make_one.field-0.0 c.from_residual-in_err-make_one.result (alone_here _) refl c.in_err-make_one.ensures.alone c.in_err-make_one.ensures.cause c.from_residual-in_err-make_one.ensures.1
 
 pub returns-clause-cause : goal.returns-clause-cause
-returns-clause-cause g c = cause_sooner (g.D.Tape.tape c.args.disk.now) (g.D.Tape.tape c.make_one.new.disk) (g.D.Tape.tape c.put_entry.new.disk) c.put_entry.result c.in_ok-make_one.ensures.alone.grown c.put_entry.ensures.cause
+returns-clause-cause g c = cause_sooner (g.D.Tape.tape c.args.disk.now) (g.D.Tape.tape c.make_one.new.disk) (g.D.Tape.tape c.put_entry.new.disk) c.put_entry.result c.in_ok-make_one.ensures.cause c.put_entry.ensures.cause
 
 pub returns-then-not-is_full_name-clause-cause : goal.returns-then-not-is_full_name-clause-cause
-returns-then-not-is_full_name-clause-cause g c = tt
+returns-then-not-is_full_name-clause-cause g c = refl
 
 pub returns-then-not-is_full_name-clause-alone : goal.returns-then-not-is_full_name-clause-alone
 returns-then-not-is_full_name-clause-alone g c = alone_here _
+
+pub returns-then-not-is_full_name-clause-frame : goal.returns-then-not-is_full_name-clause-frame
+returns-then-not-is_full_name-clause-frame g c = usable_here (g.D.Tape.tape c.args.disk.now)
 
 pub returns-in_err-words-clause-does : goal.returns-in_err-words-clause-does
 returns-in_err-words-clause-does g c = λ told todo may. does_stop Memory c.from_residual.result (so_far_here (g.D.Tape.tape c.args.disk.now)) (λ astray. cc) c.from_residual.ensures.1
@@ -67,8 +74,14 @@ returns-in_err-words-clause-does g c = λ told todo may. does_stop Memory c.from
 pub returns-in_err-words-clause-alone : goal.returns-in_err-words-clause-alone
 returns-in_err-words-clause-alone g c = alone_here _
 
+pub returns-in_err-words-clause-frame : goal.returns-in_err-words-clause-frame
+returns-in_err-words-clause-frame g c = usable_here (g.D.Tape.tape c.args.disk.now)
+
 pub returns-in_err-make_one-clause-alone : goal.returns-in_err-make_one-clause-alone
 returns-in_err-make_one-clause-alone g c = c.in_err-make_one.ensures.alone
+
+pub returns-in_err-make_one-clause-frame : goal.returns-in_err-make_one-clause-frame
+returns-in_err-make_one-clause-frame g c = c.in_err-make_one.ensures.frame
 
 pub put_entry-requires : goal.put_entry-requires
 put_entry-requires g c = record { most = subst (λ l. length l ≤ 27) (sym c.as_slice.ensures) c.in_ok-words.ensures.most }

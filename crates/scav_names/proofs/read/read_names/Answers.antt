@@ -1,4 +1,4 @@
-use Rattle.std.proofs.Common.{◌<◌, ◌≤◌, sym, subst}
+use Rattle.std.proofs.Common.{◌<◌, ◌≤◌, sym, subst, refl}
 use Rattle.std.proofs.lemmas.List.Elements.{All-nil}
 use Rattle.disk_records.specs.Addresses.{pages_of}
 use Rattle.disk_records.specs.Tapes.{pack}
@@ -9,7 +9,7 @@ use Rattle.scav_names.proofs.Erring.{found_part}
 use Rattle.scav_names.proofs.read.read_names.Goals as goal
 
 pub returns-in_err-read_rows-clause-cause : goal.returns-in_err-read_rows-clause-cause
-returns-in_err-read_rows-clause-cause g c = cause_of_part c.in_err-read_rows.field-0.0 c.from_residual.result (alone_here _) c.in_err-read_rows.ensures.alone c.in_err-read_rows.ensures.cause c.from_residual.ensures.1
+returns-in_err-read_rows-clause-cause g c = cause_of_part c.in_err-read_rows.field-0.0 c.from_residual.result (alone_here _) refl c.in_err-read_rows.ensures.alone c.in_err-read_rows.ensures.cause c.from_residual.ensures.1
 
 pub returns-in_err-read_rows-clause-alone : goal.returns-in_err-read_rows-clause-alone
 returns-in_err-read_rows-clause-alone g c = c.in_err-read_rows.ensures.alone
@@ -28,7 +28,7 @@ returns-clause-sectors g c =
     c.in_ok-read_rows.ensures.sectors (subst (AreSectors a.form) (sym c.new-reading.ensures.none) (All-nil (λ at. (1 ≤ at) × (at < pages_of a.form))))
 
 pub returns-clause-cause : goal.returns-clause-cause
-returns-clause-cause g c = tt
+returns-clause-cause g c = c.in_ok-read_rows.ensures.cause
 
 pub returns-clause-alone : goal.returns-clause-alone
 returns-clause-alone g c = c.in_ok-read_rows.ensures.alone

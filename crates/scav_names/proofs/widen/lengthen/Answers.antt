@@ -7,6 +7,8 @@ use Rattle.disk_records.specs.Packs.{carried, sector_at}
 use Rattle.disk_records.specs.Tapes.{added, pack}
 use Rattle.disk_records.proofs.Looking.{looks_pack}
 use Rattle.disk_records.proofs.Growing.{alone_here, alone_twice}
+use Rattle.disk_records.proofs.Framing.{usable_looks, usable_twice}
+use Rattle.label_check.proofs.Framing.{usable_relabel}
 use Rattle.scav_pages.proofs.Ranking.{page_ranged}
 use Rattle.scav_pages.proofs.Causing.{cause_of_guarded, cause_of_part}
 use Rattle.scav_names.specs.Roots.{lengthening_writes}
@@ -18,11 +20,20 @@ use Rattle.scav_names.proofs.widen.lengthen.Goals as goal
 pub returns-in_err-put_value-clause-alone : goal.returns-in_err-put_value-clause-alone
 returns-in_err-put_value-clause-alone g c = alone_twice c.in_ok-info.ensures.looks.alone c.in_err-put_value.ensures.alone
 
+pub returns-in_err-put_value-clause-frame : goal.returns-in_err-put_value-clause-frame
+returns-in_err-put_value-clause-frame g c = usable_twice c.in_ok-info.ensures.looks.alone c.in_err-put_value.ensures.alone (usable_looks c.in_ok-info.ensures.looks) c.in_err-put_value.ensures.frame
+
 pub returns-in_err-relabel-clause-alone : goal.returns-in_err-relabel-clause-alone
 returns-in_err-relabel-clause-alone g c = alone_twice (alone_twice c.in_ok-info.ensures.looks.alone c.in_ok-put_value.ensures.alone) c.in_err-relabel.ensures.alone
 
+pub returns-in_err-relabel-clause-frame : goal.returns-in_err-relabel-clause-frame
+returns-in_err-relabel-clause-frame g c = usable_twice (alone_twice c.in_ok-info.ensures.looks.alone c.in_ok-put_value.ensures.alone) c.in_err-relabel.ensures.alone (usable_twice c.in_ok-info.ensures.looks.alone c.in_ok-put_value.ensures.alone (usable_looks c.in_ok-info.ensures.looks) c.in_ok-put_value.ensures.frame) (usable_relabel c.in_err-relabel.ensures.guarded)
+
 pub returns-clause-alone : goal.returns-clause-alone
 returns-clause-alone g c = alone_twice (alone_twice c.in_ok-info.ensures.looks.alone c.in_ok-put_value.ensures.alone) c.in_ok-relabel.ensures.alone
+
+pub returns-clause-frame : goal.returns-clause-frame
+returns-clause-frame g c = usable_twice (alone_twice c.in_ok-info.ensures.looks.alone c.in_ok-put_value.ensures.alone) c.in_ok-relabel.ensures.alone (usable_twice c.in_ok-info.ensures.looks.alone c.in_ok-put_value.ensures.alone (usable_looks c.in_ok-info.ensures.looks) c.in_ok-put_value.ensures.frame) (usable_relabel c.in_ok-relabel.ensures.guarded)
 
 pub relabel-requires-clause-same : goal.relabel-requires-clause-same
 relabel-requires-clause-same g c =
@@ -88,16 +99,19 @@ returns-clause-writes g c = λ told here.
     all_done tt (label_all at c.args.page old label value looks.alone.grown (looks.silent told) held holds x.alone.grown done y.alone.grown (y.guarded told).ok.wrote ∙ is)
 
 pub returns-in_err-info-clause-cause : goal.returns-in_err-info-clause-cause
-returns-in_err-info-clause-cause g c = cause_of_guarded c.in_err-info.field-0.0 c.from_residual.result (alone_here _) c.in_err-info.ensures.looks.alone c.in_err-info.ensures.cause c.from_residual.ensures.1
+returns-in_err-info-clause-cause g c = cause_of_guarded c.in_err-info.field-0.0 c.from_residual.result (alone_here _) refl c.in_err-info.ensures.looks.alone c.in_err-info.ensures.cause c.from_residual.ensures.1
 
 pub returns-in_err-put_value-clause-cause : goal.returns-in_err-put_value-clause-cause
-returns-in_err-put_value-clause-cause g c = cause_of_part c.in_err-put_value.field-0.0 c.from_residual-in_err-put_value.result c.in_ok-info.ensures.looks.alone c.in_err-put_value.ensures.alone c.in_err-put_value.ensures.cause c.from_residual-in_err-put_value.ensures.1
+returns-in_err-put_value-clause-cause g c = cause_of_part c.in_err-put_value.field-0.0 c.from_residual-in_err-put_value.result c.in_ok-info.ensures.looks.alone c.in_ok-info.ensures.cause c.in_err-put_value.ensures.alone c.in_err-put_value.ensures.cause c.from_residual-in_err-put_value.ensures.1
 
 pub returns-in_err-relabel-clause-cause : goal.returns-in_err-relabel-clause-cause
-returns-in_err-relabel-clause-cause g c = cause_of_guarded c.in_err-relabel.field-0.0 c.from_residual-in_err-relabel.result (alone_twice c.in_ok-info.ensures.looks.alone c.in_ok-put_value.ensures.alone) c.in_err-relabel.ensures.alone c.in_err-relabel.ensures.cause c.from_residual-in_err-relabel.ensures.1
+returns-in_err-relabel-clause-cause g c = cause_of_guarded c.in_err-relabel.field-0.0 c.from_residual-in_err-relabel.result (alone_twice c.in_ok-info.ensures.looks.alone c.in_ok-put_value.ensures.alone) (c.in_ok-put_value.ensures.cause ∙ c.in_ok-info.ensures.cause) c.in_err-relabel.ensures.alone c.in_err-relabel.ensures.cause c.from_residual-in_err-relabel.ensures.1
 
 pub returns-in_err-info-clause-alone : goal.returns-in_err-info-clause-alone
 returns-in_err-info-clause-alone g c = c.in_err-info.ensures.looks.alone
+
+pub returns-in_err-info-clause-frame : goal.returns-in_err-info-clause-frame
+returns-in_err-info-clause-frame g c = usable_looks c.in_err-info.ensures.looks
 
 pub put_value-requires-clause-first : goal.put_value-requires-clause-first
 put_value-requires-clause-first g c = c.requires.first
@@ -106,4 +120,4 @@ pub relabel-requires-clause-first : goal.relabel-requires-clause-first
 relabel-requires-clause-first g c = c.requires.first
 
 pub returns-clause-cause : goal.returns-clause-cause
-returns-clause-cause g c = tt
+returns-clause-cause g c = c.in_ok-relabel.ensures.cause ∙ c.in_ok-put_value.ensures.cause ∙ c.in_ok-info.ensures.cause

@@ -1,4 +1,4 @@
-use Rattle.std.proofs.Common.{◌≡◌, ◌≢◌, ◌*◌, ◌/◌, ◌%◌, ◌<◌, true, get_or, length, None, Some, Err, ap, sym, subst, ◌∙◌, arith}
+use Rattle.std.proofs.Common.{◌≡◌, ◌≢◌, ◌*◌, ◌/◌, ◌%◌, ◌<◌, true, get_or, length, None, Some, Err, ap, sym, subst, ◌∙◌, arith, refl}
 use Rattle.alto_words.specs.Fid.{is_full_name, sys_dir}
 use Rattle.disk_records.specs.declared.records.Page.{Page}
 use Rattle.disk_records.specs.Addresses.{pages_of, real_of}
@@ -9,6 +9,8 @@ use Rattle.disk_records.specs.Tapes.{added, pack}
 use Rattle.disk_records.specs.Causes.{IsCause}
 use Rattle.disk_records.proofs.Looking.{looks_pack}
 use Rattle.disk_records.proofs.Growing.{alone_here, alone_twice}
+use Rattle.disk_records.proofs.Framing.{usable_here, usable_looks, usable_twice}
+use Rattle.label_check.proofs.Framing.{usable_claim}
 use Rattle.scav_pages.specs.laws_operation.proofs.Making.{named_page}
 use Rattle.pack_model.specs.hints.Links.{dir_words}
 use Rattle.pack_model.specs.reading.Slots.{slots}
@@ -57,11 +59,20 @@ claim-requires-clause-label g c =
 pub returns-in_err-claim-clause-alone : goal.returns-in_err-claim-clause-alone
 returns-in_err-claim-clause-alone g c = alone_twice c.in_ok-fresh.ensures.looks.alone c.in_err-claim.ensures.alone
 
+pub returns-in_err-claim-clause-frame : goal.returns-in_err-claim-clause-frame
+returns-in_err-claim-clause-frame g c = usable_twice c.in_ok-fresh.ensures.looks.alone c.in_err-claim.ensures.alone (usable_looks c.in_ok-fresh.ensures.looks) (usable_claim c.in_err-claim.ensures.guarded)
+
 pub returns-in_err-lengthen-clause-alone : goal.returns-in_err-lengthen-clause-alone
 returns-in_err-lengthen-clause-alone g c = alone_twice (alone_twice c.in_ok-fresh.ensures.looks.alone c.in_ok-claim.ensures.alone) c.in_err-lengthen.ensures.alone
 
+pub returns-in_err-lengthen-clause-frame : goal.returns-in_err-lengthen-clause-frame
+returns-in_err-lengthen-clause-frame g c = usable_twice (alone_twice c.in_ok-fresh.ensures.looks.alone c.in_ok-claim.ensures.alone) c.in_err-lengthen.ensures.alone (usable_twice c.in_ok-fresh.ensures.looks.alone c.in_ok-claim.ensures.alone (usable_looks c.in_ok-fresh.ensures.looks) (usable_claim c.in_ok-claim.ensures.guarded)) c.in_err-lengthen.ensures.frame
+
 pub returns-clause-alone : goal.returns-clause-alone
 returns-clause-alone g c = alone_twice (alone_twice c.in_ok-fresh.ensures.looks.alone c.in_ok-claim.ensures.alone) c.in_ok-lengthen.ensures.alone
+
+pub returns-clause-frame : goal.returns-clause-frame
+returns-clause-frame g c = usable_twice (alone_twice c.in_ok-fresh.ensures.looks.alone c.in_ok-claim.ensures.alone) c.in_ok-lengthen.ensures.alone (usable_twice c.in_ok-fresh.ensures.looks.alone c.in_ok-claim.ensures.alone (usable_looks c.in_ok-fresh.ensures.looks) (usable_claim c.in_ok-claim.ensures.guarded)) c.in_ok-lengthen.ensures.frame
 
 pub returns-in_err-claim-clause-does : goal.returns-in_err-claim-clause-does
 returns-in_err-claim-clause-does g c = λ told todo may.
@@ -132,16 +143,16 @@ returns-clause-does g c = λ told todo may.
     (λ pages rooms. subst (λ q. Widened root new todo (pack a) q tt) (sym left) (widened a root todo may c.in_ok-fresh.fresh free formed new pages (c.push_page.ensures.from ∙ c.in_ok-fresh.ensures.next) rooms))
 
 pub returns-in_err-last-clause-cause : goal.returns-in_err-last-clause-cause
-returns-in_err-last-clause-cause g c = cause_of_part c.in_err-last.field-0.0 c.from_residual.result (alone_here (g.D.Tape.tape c.args.disk.now)) (alone_here _) (subst (λ s. IsCause (g.D.Tape.tape c.args.disk.now) (g.D.Tape.tape c.args.disk.now) (cause_of_stop s)) (sym c.in_err-last.ensures.astray) tt) c.from_residual.ensures.1
+returns-in_err-last-clause-cause g c = cause_of_part c.in_err-last.field-0.0 c.from_residual.result (alone_here (g.D.Tape.tape c.args.disk.now)) refl (alone_here _) (subst (λ s. IsCause (g.D.Tape.tape c.args.disk.now) (g.D.Tape.tape c.args.disk.now) (cause_of_stop s)) (sym c.in_err-last.ensures.astray) refl) c.from_residual.ensures.1
 
 pub returns-in_err-fresh-clause-cause : goal.returns-in_err-fresh-clause-cause
-returns-in_err-fresh-clause-cause g c = cause_of_part c.in_err-fresh.field-0.0 c.from_residual-in_err-fresh.result (alone_here _) c.in_err-fresh.ensures.looks.alone c.in_err-fresh.ensures.cause c.from_residual-in_err-fresh.ensures.1
+returns-in_err-fresh-clause-cause g c = cause_of_part c.in_err-fresh.field-0.0 c.from_residual-in_err-fresh.result (alone_here _) refl c.in_err-fresh.ensures.looks.alone c.in_err-fresh.ensures.cause c.from_residual-in_err-fresh.ensures.1
 
 pub returns-in_err-claim-clause-cause : goal.returns-in_err-claim-clause-cause
-returns-in_err-claim-clause-cause g c = cause_of_guarded c.in_err-claim.field-0.0 c.from_residual-in_err-claim.result c.in_ok-fresh.ensures.looks.alone c.in_err-claim.ensures.alone c.in_err-claim.ensures.cause c.from_residual-in_err-claim.ensures.1
+returns-in_err-claim-clause-cause g c = cause_of_guarded c.in_err-claim.field-0.0 c.from_residual-in_err-claim.result c.in_ok-fresh.ensures.looks.alone c.in_ok-fresh.ensures.cause c.in_err-claim.ensures.alone c.in_err-claim.ensures.cause c.from_residual-in_err-claim.ensures.1
 
 pub returns-in_err-lengthen-clause-cause : goal.returns-in_err-lengthen-clause-cause
-returns-in_err-lengthen-clause-cause g c = cause_of_part c.in_err-lengthen.field-0.0 c.from_residual-in_err-lengthen.result (alone_twice c.in_ok-fresh.ensures.looks.alone c.in_ok-claim.ensures.alone) c.in_err-lengthen.ensures.alone c.in_err-lengthen.ensures.cause c.from_residual-in_err-lengthen.ensures.1
+returns-in_err-lengthen-clause-cause g c = cause_of_part c.in_err-lengthen.field-0.0 c.from_residual-in_err-lengthen.result (alone_twice c.in_ok-fresh.ensures.looks.alone c.in_ok-claim.ensures.alone) (c.in_ok-claim.ensures.cause ∙ c.in_ok-fresh.ensures.cause) c.in_err-lengthen.ensures.alone c.in_err-lengthen.ensures.cause c.from_residual-in_err-lengthen.ensures.1
 
 pub returns-in_err-last-clause-first : goal.returns-in_err-last-clause-first
 returns-in_err-last-clause-first g c = c.requires.first
@@ -149,20 +160,29 @@ returns-in_err-last-clause-first g c = c.requires.first
 pub returns-in_err-last-clause-alone : goal.returns-in_err-last-clause-alone
 returns-in_err-last-clause-alone g c = alone_here _
 
+pub returns-in_err-last-clause-frame : goal.returns-in_err-last-clause-frame
+returns-in_err-last-clause-frame g c = usable_here (g.D.Tape.tape c.args.disk.now)
+
 pub returns-in_err-fresh-clause-first : goal.returns-in_err-fresh-clause-first
 returns-in_err-fresh-clause-first g c = let least = c.in_err-fresh.ensures.least in let first = c.requires.first in omega (arith, least, first)
 
 pub returns-in_err-fresh-clause-alone : goal.returns-in_err-fresh-clause-alone
 returns-in_err-fresh-clause-alone g c = c.in_err-fresh.ensures.looks.alone
 
+pub returns-in_err-fresh-clause-frame : goal.returns-in_err-fresh-clause-frame
+returns-in_err-fresh-clause-frame g c = usable_looks c.in_err-fresh.ensures.looks
+
 pub returns-in_default-clause-first : goal.returns-in_default-clause-first
 returns-in_default-clause-first g c = let least = c.in_ok-fresh.ensures.least in let first = c.requires.first in omega (arith, least, first)
 
 pub returns-in_default-clause-cause : goal.returns-in_default-clause-cause
-returns-in_default-clause-cause g c = tt
+returns-in_default-clause-cause g c = c.in_ok-fresh.ensures.cause
 
 pub returns-in_default-clause-alone : goal.returns-in_default-clause-alone
 returns-in_default-clause-alone g c = c.in_ok-fresh.ensures.looks.alone
+
+pub returns-in_default-clause-frame : goal.returns-in_default-clause-frame
+returns-in_default-clause-frame g c = usable_looks c.in_ok-fresh.ensures.looks
 
 pub claim-requires-clause-first : goal.claim-requires-clause-first
 claim-requires-clause-first g c = let least = c.in_ok-fresh.ensures.first in let first = c.requires.first in omega (arith, least, first)
@@ -189,4 +209,4 @@ pub returns-clause-first : goal.returns-clause-first
 returns-clause-first g c = let least = c.in_ok-fresh.ensures.least in let first = c.requires.first in let from = c.push_page.ensures.from in omega (arith, least, first, from)
 
 pub returns-clause-cause : goal.returns-clause-cause
-returns-clause-cause g c = cause_of_memory (g.D.Tape.tape c.args.disk.now) (g.D.Tape.tape c.lengthen.new.disk) c.push_page.result c.push_page.ensures.memory
+returns-clause-cause g c = cause_of_memory (g.D.Tape.tape c.args.disk.now) (g.D.Tape.tape c.lengthen.new.disk) c.push_page.result (c.in_ok-lengthen.ensures.cause ∙ c.in_ok-claim.ensures.cause ∙ c.in_ok-fresh.ensures.cause) c.push_page.ensures.memory

@@ -1,9 +1,11 @@
-use Rattle.std.proofs.Common.{◌<◌, ap, sym, subst, ◌∙◌}
+use Rattle.std.proofs.Common.{◌<◌, ap, sym, subst, ◌∙◌, refl}
 use Rattle.disk_records.specs.Addresses.{pages_of}
 use Rattle.disk_records.specs.Events.{IsFirstOf}
 use Rattle.disk_records.specs.Packs.{carried}
 use Rattle.disk_records.specs.Tapes.{added, pack}
 use Rattle.disk_records.proofs.Growing.{alone_here, alone_twice}
+use Rattle.disk_records.proofs.Framing.{usable_looks, usable_twice}
+use Rattle.label_check.proofs.Framing.{usable_value}
 use Rattle.disk_records.proofs.Looking.{looks_pack}
 use Rattle.scav_pages.proofs.Causing.{cause_of_guarded}
 use Rattle.scav_names.specs.Words.{page_writes}
@@ -14,17 +16,26 @@ use Rattle.scav_names.proofs.words.put_words.Goals as goal
 pub returns-in_err-write_value-clause-alone : goal.returns-in_err-write_value-clause-alone
 returns-in_err-write_value-clause-alone g c = alone_twice c.in_ok-read_page.ensures.looks.alone c.in_err-write_value.ensures.alone
 
+pub returns-in_err-write_value-clause-frame : goal.returns-in_err-write_value-clause-frame
+returns-in_err-write_value-clause-frame g c = usable_twice c.in_ok-read_page.ensures.looks.alone c.in_err-write_value.ensures.alone (usable_looks c.in_ok-read_page.ensures.looks) (usable_value c.in_err-write_value.ensures.guarded)
+
 pub returns-in_ok-write_value-clause-alone : goal.returns-in_ok-write_value-clause-alone
 returns-in_ok-write_value-clause-alone g c = alone_twice c.in_ok-read_page.ensures.looks.alone c.in_ok-write_value.ensures.alone
 
+pub returns-in_ok-write_value-clause-frame : goal.returns-in_ok-write_value-clause-frame
+returns-in_ok-write_value-clause-frame g c = usable_twice c.in_ok-read_page.ensures.looks.alone c.in_ok-write_value.ensures.alone (usable_looks c.in_ok-read_page.ensures.looks) (usable_value c.in_ok-write_value.ensures.guarded)
+
 pub returns-in_err-read_page-clause-cause : goal.returns-in_err-read_page-clause-cause
-returns-in_err-read_page-clause-cause g c = cause_of_guarded c.in_err-read_page.field-0.0 c.from_residual.result (alone_here _) c.in_err-read_page.ensures.looks.alone c.in_err-read_page.ensures.cause c.from_residual.ensures.1
+returns-in_err-read_page-clause-cause g c = cause_of_guarded c.in_err-read_page.field-0.0 c.from_residual.result (alone_here _) refl c.in_err-read_page.ensures.looks.alone c.in_err-read_page.ensures.cause c.from_residual.ensures.1
 
 pub returns-in_err-write_value-clause-cause : goal.returns-in_err-write_value-clause-cause
-returns-in_err-write_value-clause-cause g c = cause_of_guarded c.in_err-write_value.field-0.0 c.from_residual-in_err-write_value.result c.in_ok-read_page.ensures.looks.alone c.in_err-write_value.ensures.alone c.in_err-write_value.ensures.cause c.from_residual-in_err-write_value.ensures.1
+returns-in_err-write_value-clause-cause g c = cause_of_guarded c.in_err-write_value.field-0.0 c.from_residual-in_err-write_value.result c.in_ok-read_page.ensures.looks.alone c.in_ok-read_page.ensures.cause c.in_err-write_value.ensures.alone c.in_err-write_value.ensures.cause c.from_residual-in_err-write_value.ensures.1
 
 pub returns-in_err-read_page-clause-alone : goal.returns-in_err-read_page-clause-alone
 returns-in_err-read_page-clause-alone g c = c.in_err-read_page.ensures.looks.alone
+
+pub returns-in_err-read_page-clause-frame : goal.returns-in_err-read_page-clause-frame
+returns-in_err-read_page-clause-frame g c = usable_looks c.in_err-read_page.ensures.looks
 
 pub returns-in_err-read_page-clause-writes : goal.returns-in_err-read_page-clause-writes
 returns-in_err-read_page-clause-writes g c = λ told here.
@@ -56,7 +67,7 @@ returns-in_ok-write_value-clause-writes g c = λ told here.
     all_done tt (added_looked looks.alone.grown (looks.silent told) wrote.alone.grown ∙ (wrote.guarded told).ok.wrote ∙ sym is)
 
 pub returns-in_ok-write_value-clause-cause : goal.returns-in_ok-write_value-clause-cause
-returns-in_ok-write_value-clause-cause g c = tt
+returns-in_ok-write_value-clause-cause g c = c.in_ok-write_value.ensures.cause ∙ c.in_ok-read_page.ensures.cause
 
 pub returns-else-put_in_value-clause-writes : goal.returns-else-put_in_value-clause-writes
 returns-else-put_in_value-clause-writes g c = λ told here.
@@ -65,7 +76,10 @@ returns-else-put_in_value-clause-writes g c = λ told here.
     all_done tt (c.in_ok-read_page.ensures.looks.silent told ∙ sym is)
 
 pub returns-else-put_in_value-clause-cause : goal.returns-else-put_in_value-clause-cause
-returns-else-put_in_value-clause-cause g c = tt
+returns-else-put_in_value-clause-cause g c = c.in_ok-read_page.ensures.cause
 
 pub returns-else-put_in_value-clause-alone : goal.returns-else-put_in_value-clause-alone
 returns-else-put_in_value-clause-alone g c = c.in_ok-read_page.ensures.looks.alone
+
+pub returns-else-put_in_value-clause-frame : goal.returns-else-put_in_value-clause-frame
+returns-else-put_in_value-clause-frame g c = usable_looks c.in_ok-read_page.ensures.looks

@@ -2,6 +2,7 @@ use Rattle.std.proofs.Common.{◌≡◌, ℕ, suc, ◌<◌, List, [], ◌∷◌,
 use Rattle.std.proofs.lemmas.List.{drop_all}
 use Rattle.disk_records.specs.Tapes.{pack}
 use Rattle.disk_records.proofs.Growing.{alone_twice}
+use Rattle.disk_records.proofs.Framing.{usable_twice}
 use Rattle.pack_model.specs.operations.PageWords.{in_page}
 use Rattle.scav_pages.proofs.Causing.{cause_of_part}
 use Rattle.scav_names.specs.declared.words.DirWord.{DirWord}
@@ -31,11 +32,16 @@ returns-in_err-put_words-clause-writes g c = λ told seated.
 pub returns-in_err-put_words-clause-alone : goal.returns-in_err-put_words-clause-alone
 returns-in_err-put_words-clause-alone g c = alone_twice c.loop-more.invariant.alone c.in_err-put_words.ensures.alone
 
+pub returns-in_err-put_words-clause-frame : goal.returns-in_err-put_words-clause-frame
+returns-in_err-put_words-clause-frame g c = usable_twice c.loop-more.invariant.alone c.in_err-put_words.ensures.alone c.loop-more.invariant.frame c.in_err-put_words.ensures.frame
+
 pub loop-more-preserved : goal.loop-more-preserved
 loop-more-preserved g c = record {
   done = let d = c.loop-more.invariant.done in omega (arith, d);
   within = let t = c.loop-more-test in omega (arith, t.true);
   alone = alone_twice c.loop-more.invariant.alone c.in_ok-put_words.ensures.alone;
+  unfailed = c.in_ok-put_words.ensures.cause ∙ c.loop-more.invariant.unfailed;
+  frame = usable_twice c.loop-more.invariant.alone c.in_ok-put_words.ensures.alone c.loop-more.invariant.frame c.in_ok-put_words.ensures.frame;
   wrote = λ told was. (let x = c.loop-more.invariant.wrote told was in page_written_more c.args.row.now.at (in_page (get_or c.args.words.now c.loop-more.more zero_word).place) ((get_or c.args.words.now c.loop-more.more zero_word).word ∷ []) c.args.row.now.page x c.in_ok-put_words.ensures.alone.grown (c.in_ok-put_words.ensures.writes told x.carries).ok);
   words = λ told seated.
       let words = c.args.words.now in
@@ -59,4 +65,4 @@ pub returns-after-loop-more-clause-writes : goal.returns-after-loop-more-clause-
 returns-after-loop-more-clause-writes g c = λ told seated. words_done (c.loop-more.invariant.words told seated) (λ w ws is. (let t = c.loop-more-test.false in let none = drop_all c.loop-more.more c.args.words.now (omega (arith, t)) in cc))
 
 pub returns-in_err-put_words-clause-cause : goal.returns-in_err-put_words-clause-cause
-returns-in_err-put_words-clause-cause g c = cause_of_part c.in_err-put_words.field-0.0 c.from_residual.result c.loop-more.invariant.alone c.in_err-put_words.ensures.alone c.in_err-put_words.ensures.cause c.from_residual.ensures.1
+returns-in_err-put_words-clause-cause g c = cause_of_part c.in_err-put_words.field-0.0 c.from_residual.result c.loop-more.invariant.alone c.loop-more.invariant.unfailed c.in_err-put_words.ensures.alone c.in_err-put_words.ensures.cause c.from_residual.ensures.1

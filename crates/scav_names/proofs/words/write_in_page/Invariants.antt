@@ -1,5 +1,7 @@
 use Rattle.std.specs.Prelude.{◌≡◌, ◌-◌, ◌≤◌, IsTrue, Some, length}
 use Rattle.disk_records.specs.Packs.{carried}
+use Rattle.disk_records.specs.Causes.{Unfailed}
+use Rattle.disk_records.specs.Frames.{WritesUsable}
 use Rattle.disk_records.specs.Tapes.{DiskAlone, pack}
 use Rattle.scav_pages.specs.Links.{WritesPage}
 use Rattle.scav_pages.specs.Walks.{IsSeated}
@@ -14,6 +16,8 @@ invariant-loop-more g l =
       done : l.done ≤ l.more;
       within : l.more ≤ length l.words;
       alone : DiskAlone old now;
+      unfailed : Unfailed old now;
+      frame : WritesUsable g.D.Tape.told old now;
       wrote : IsTrue g.D.Tape.told → carried (pack old) l.row.at ≡ Some l.row.page → WritesPage l.row.at l.row.page (pack old) (pack now);
       words : IsTrue g.D.Tape.told → IsSeated (pack old) l.row → WordsTo l.words l.done l.row old now l.more;
     }

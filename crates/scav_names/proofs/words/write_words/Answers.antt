@@ -1,8 +1,9 @@
-use Rattle.std.proofs.Common.{◌≡◌, ◌<◌, Err, IfSome, IsTrue, None, Some, ap, sym, subst, ◌∙◌}
+use Rattle.std.proofs.Common.{◌≡◌, ◌<◌, Err, IfSome, IsTrue, None, Some, ap, sym, subst, ◌∙◌, refl}
 use Rattle.std.specs.Option.{option_or}
 use Rattle.disk_records.specs.Tapes.{pack}
 use Rattle.disk_records.proofs.Looking.{looks_pack}
 use Rattle.disk_records.proofs.Growing.{alone_here, alone_twice}
+use Rattle.disk_records.proofs.Framing.{usable_looks, usable_twice}
 use Rattle.scav_pages.specs.Walks.{AreWords, IsSeated}
 use Rattle.scav_pages.specs.Links.{WritesPage}
 use Rattle.scav_pages.proofs.Ahead.{ahead, ahead_falls}
@@ -23,6 +24,9 @@ returns-in_err-row-clause-writes g c = λ told are.
 pub returns-in_err-row-clause-alone : goal.returns-in_err-row-clause-alone
 returns-in_err-row-clause-alone g c = alone_twice c.loop-row.invariant.alone c.in_err-row.ensures.looks.alone
 
+pub returns-in_err-row-clause-frame : goal.returns-in_err-row-clause-frame
+returns-in_err-row-clause-frame g c = usable_twice c.loop-row.invariant.alone c.in_err-row.ensures.looks.alone c.loop-row.invariant.frame (usable_looks c.in_err-row.ensures.looks)
+
 pub returns-in_err-done-clause-writes : goal.returns-in_err-done-clause-writes
 returns-in_err-done-clause-writes g c = λ told are.
     let read = c.in_ok-row.ensures in
@@ -37,6 +41,9 @@ returns-in_err-done-clause-writes g c = λ told are.
 
 pub returns-in_err-done-clause-alone : goal.returns-in_err-done-clause-alone
 returns-in_err-done-clause-alone g c = alone_twice (alone_twice c.loop-row.invariant.alone c.in_ok-row.ensures.looks.alone) c.in_err-done.ensures.alone
+
+pub returns-in_err-done-clause-frame : goal.returns-in_err-done-clause-frame
+returns-in_err-done-clause-frame g c = usable_twice (alone_twice c.loop-row.invariant.alone c.in_ok-row.ensures.looks.alone) c.in_err-done.ensures.alone (usable_twice c.loop-row.invariant.alone c.in_ok-row.ensures.looks.alone c.loop-row.invariant.frame (usable_looks c.in_ok-row.ensures.looks)) c.in_err-done.ensures.frame
 
 pub loop-row-preserved : goal.loop-row-preserved
 loop-row-preserved g c =
@@ -55,6 +62,8 @@ loop-row-preserved g c =
     record {
       within = done.within.1;
       alone = alone_twice (alone_twice inv.alone read.looks.alone) done.alone;
+      unfailed = done.cause ∙ read.cause ∙ inv.unfailed;
+      frame = usable_twice (alone_twice inv.alone read.looks.alone) done.alone (usable_twice inv.alone read.looks.alone inv.frame (usable_looks read.looks)) done.frame;
       stands = stands_words row read.stands next wrote;
       passed = λ told are. subst (λ l. WordsPassed c.args.words.now (g.D.Tape.tape c.args.disk.now) (g.D.Tape.tape c.write_in_page.new.disk) l c.in_ok-done.done) (sym next)
           (passed_next are (so_far told are) row words (first_here told) done.alone.grown done.within.0 (done.writes told (row_is_seated are (so_far told are) row words (first_here told))) (wrote told));
@@ -75,11 +84,14 @@ returns-clause-writes g c = λ told are.
 pub returns-clause-alone : goal.returns-clause-alone
 returns-clause-alone g c = alone_twice c.loop-row.invariant.alone c.in_ok-row.ensures.looks.alone
 
+pub returns-clause-frame : goal.returns-clause-frame
+returns-clause-frame g c = usable_twice c.loop-row.invariant.alone c.in_ok-row.ensures.looks.alone c.loop-row.invariant.frame (usable_looks c.in_ok-row.ensures.looks)
+
 pub returns-in_err-pass-clause-cause : goal.returns-in_err-pass-clause-cause
-returns-in_err-pass-clause-cause g c = cause_of_swept c.in_err-pass.field-0.0 c.from_residual.result (alone_here _) c.in_err-pass.ensures.looks.alone c.in_err-pass.ensures.cause c.from_residual.ensures.1
+returns-in_err-pass-clause-cause g c = cause_of_swept c.in_err-pass.field-0.0 c.from_residual.result (alone_here _) refl c.in_err-pass.ensures.looks.alone c.in_err-pass.ensures.cause c.from_residual.ensures.1
 
 pub returns-in_err-row-clause-cause : goal.returns-in_err-row-clause-cause
-returns-in_err-row-clause-cause g c = cause_of_part c.in_err-row.field-0.0 c.from_residual-in_err-row.result c.loop-row.invariant.alone c.in_err-row.ensures.looks.alone c.in_err-row.ensures.cause c.from_residual-in_err-row.ensures.1
+returns-in_err-row-clause-cause g c = cause_of_part c.in_err-row.field-0.0 c.from_residual-in_err-row.result c.loop-row.invariant.alone c.loop-row.invariant.unfailed c.in_err-row.ensures.looks.alone c.in_err-row.ensures.cause c.from_residual-in_err-row.ensures.1
 
 pub returns-in_err-done-clause-cause : goal.returns-in_err-done-clause-cause
-returns-in_err-done-clause-cause g c = cause_of_part c.in_err-done.field-0.0 c.from_residual-in_err-done.result (alone_twice c.loop-row.invariant.alone c.in_ok-row.ensures.looks.alone) c.in_err-done.ensures.alone c.in_err-done.ensures.cause c.from_residual-in_err-done.ensures.1
+returns-in_err-done-clause-cause g c = cause_of_part c.in_err-done.field-0.0 c.from_residual-in_err-done.result (alone_twice c.loop-row.invariant.alone c.in_ok-row.ensures.looks.alone) (c.in_ok-row.ensures.cause ∙ c.loop-row.invariant.unfailed) c.in_err-done.ensures.alone c.in_err-done.ensures.cause c.from_residual-in_err-done.ensures.1

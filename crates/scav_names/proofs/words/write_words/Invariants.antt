@@ -1,4 +1,6 @@
 use Rattle.std.specs.Prelude.{◌≤◌, IsTrue, length}
+use Rattle.disk_records.specs.Causes.{Unfailed}
+use Rattle.disk_records.specs.Frames.{WritesUsable}
 use Rattle.disk_records.specs.Tapes.{DiskAlone, pack}
 use Rattle.scav_pages.proofs.Ahead.{ahead}
 use Rattle.scav_table.specs.Passes.{Stands}
@@ -13,6 +15,8 @@ invariant-loop-row g l =
     record {
       within : l.done ≤ length l.words;
       alone : DiskAlone old now;
+      unfailed : Unfailed old now;
+      frame : WritesUsable g.D.Tape.told old now;
       stands : Stands g.D.Tape.told (pack now) l.table l.pass;
       passed : IsTrue g.D.Tape.told → AreWordsOf (pack old) l.words → WordsPassed l.words old now l.pass.last l.done;
     }

@@ -1,14 +1,20 @@
 use Rattle.std.proofs.Common.{◌≡◌}
 use Rattle.std.specs.Option.{option_map}
+use Rattle.disk_records.specs.Causes.{Unfailed}
+use Rattle.disk_records.specs.Frames.{WritesUsable}
 use Rattle.scav_pages.proofs.Ahead.{ahead}
 use Rattle.scav_pages.proofs.Copying.{CopiesPass}
 use Rattle.scav_pages.proofs.copies.release_copies.Given as goal
 
 abbrev pub invariant-loop-row : goal.invariant-loop-row
 invariant-loop-row g l =
+    let old = g.D.Tape.tape l.fn.disk in
+    let now = g.D.Tape.tape l.disk in
     record {
       last : l.last ≡ option_map (λ r. r.page) l.pass.last;
-      pass : CopiesPass g.D.Tape.told (g.D.Tape.tape l.fn.disk) (g.D.Tape.tape l.disk) l.table l.pass l.freed;
+      pass : CopiesPass g.D.Tape.told old now l.table l.pass l.freed;
+      unfailed : Unfailed old now;
+      frame : WritesUsable g.D.Tape.told old now;
     }
 
 abbrev pub decreases-loop-row : goal.decreases-loop-row

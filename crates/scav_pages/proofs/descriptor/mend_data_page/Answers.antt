@@ -7,8 +7,10 @@ use Rattle.disk_records.specs.Packs.{after, carried, sector_at}
 use Rattle.disk_records.specs.Commands.{relabel_writes}
 use Rattle.disk_records.specs.Tapes.{pack}
 use Rattle.disk_records.specs.Words.{word}
+use Rattle.disk_records.proofs.Framing.{usable_looks, usable_twice}
 use Rattle.disk_records.proofs.Growing.{alone_here, alone_twice}
 use Rattle.disk_records.proofs.Looking.{looks_pack}
+use Rattle.label_check.proofs.Framing.{usable_relabel}
 use Rattle.scav_pages.specs.Ends.{MayDescribePage}
 use Rattle.scav_pages.proofs.Causing.{cause_of_guarded, cause_of_part}
 use Rattle.scav_pages.proofs.Changing.{other_word}
@@ -33,7 +35,7 @@ returns-in_err-places-clause-does g c = λ told may.
     does_stop_part c.in_err-places.field-0.0 c.from_residual.result (going_here a) c.in_err-places.ensures.alone.grown d c.from_residual.ensures.1
 
 pub returns-in_err-places-clause-cause : goal.returns-in_err-places-clause-cause
-returns-in_err-places-clause-cause g c = cause_of_part c.in_err-places.field-0.0 c.from_residual.result (alone_here _) c.in_err-places.ensures.alone c.in_err-places.ensures.cause c.from_residual.ensures.1
+returns-in_err-places-clause-cause g c = cause_of_part c.in_err-places.field-0.0 c.from_residual.result (alone_here _) refl c.in_err-places.ensures.alone c.in_err-places.ensures.cause c.from_residual.ensures.1
 
 pub returns-then-at-eq0-clause-does : goal.returns-then-at-eq0-clause-does
 returns-then-at-eq0-clause-does g c = λ told may.
@@ -72,7 +74,7 @@ returns-in_err-info-clause-does g c = λ told may.
     (c.in_err-info.ensures.guarded told) c.from_residual-in_err-info.ensures.1
 
 pub returns-in_err-info-clause-cause : goal.returns-in_err-info-clause-cause
-returns-in_err-info-clause-cause g c = cause_of_guarded c.in_err-info.field-0.0 c.from_residual-in_err-info.result (alone_here _) c.in_err-info.ensures.looks.alone c.in_err-info.ensures.cause c.from_residual-in_err-info.ensures.1
+returns-in_err-info-clause-cause g c = cause_of_guarded c.in_err-info.field-0.0 c.from_residual-in_err-info.result (alone_here _) refl c.in_err-info.ensures.looks.alone c.in_err-info.ensures.cause c.from_residual-in_err-info.ensures.1
 
 pub relabel-requires-clause-place : goal.relabel-requires-clause-place
 relabel-requires-clause-place g c =
@@ -87,13 +89,19 @@ relabel-requires-clause-same g c =
     ap page_of c.label_of-label.ensures ∙ names_its_page (its_page c.args.number) c.page_bytes-bytes.result c.in_ok-info.info.next c.in_ok-info.info.previous refl (omega (arith, most, c.requires.most)) few
 
 pub returns-in_err-relabel-clause-cause : goal.returns-in_err-relabel-clause-cause
-returns-in_err-relabel-clause-cause g c = cause_of_guarded c.in_err-relabel.field-0.0 c.from_residual-in_err-relabel.result c.in_ok-info.ensures.looks.alone c.in_err-relabel.ensures.alone c.in_err-relabel.ensures.cause c.from_residual-in_err-relabel.ensures.1
+returns-in_err-relabel-clause-cause g c = cause_of_guarded c.in_err-relabel.field-0.0 c.from_residual-in_err-relabel.result c.in_ok-info.ensures.looks.alone c.in_ok-info.ensures.cause c.in_err-relabel.ensures.alone c.in_err-relabel.ensures.cause c.from_residual-in_err-relabel.ensures.1
 
 pub returns-in_err-relabel-clause-alone : goal.returns-in_err-relabel-clause-alone
 returns-in_err-relabel-clause-alone g c = alone_twice c.in_ok-info.ensures.looks.alone c.in_err-relabel.ensures.alone
 
+pub returns-in_err-relabel-clause-frame : goal.returns-in_err-relabel-clause-frame
+returns-in_err-relabel-clause-frame g c = usable_twice c.in_ok-info.ensures.looks.alone c.in_err-relabel.ensures.alone (usable_looks c.in_ok-info.ensures.looks) (usable_relabel c.in_err-relabel.ensures.guarded)
+
 pub returns-in_ok-relabel-clause-alone : goal.returns-in_ok-relabel-clause-alone
 returns-in_ok-relabel-clause-alone g c = alone_twice c.in_ok-info.ensures.looks.alone c.in_ok-relabel.ensures.alone
+
+pub returns-in_ok-relabel-clause-frame : goal.returns-in_ok-relabel-clause-frame
+returns-in_ok-relabel-clause-frame g c = usable_twice c.in_ok-info.ensures.looks.alone c.in_ok-relabel.ensures.alone (usable_looks c.in_ok-info.ensures.looks) (usable_relabel c.in_ok-relabel.ensures.guarded)
 
 pub returns-in_err-relabel-clause-does : goal.returns-in_err-relabel-clause-does
 returns-in_err-relabel-clause-does g c = λ told may.
@@ -150,3 +158,6 @@ returns-else-info-bytes-clause-does g c = λ told may.
     does_ok tt (going_looks (going_here a) looks told)
     (already_described (pack a) c.args.number c.args.from.now places may c.requires.one c.requires.most at noted c.if-at-eq0.false (pack b) (looks_pack looks told) (g.met.D.Disk.formed c.read_page.new.disk told)
     (sym (ap (λ i. i.bytes) read.tells) ∙ c.if-info-bytes.false ∙ size))
+
+pub returns-in_err-info-clause-frame : goal.returns-in_err-info-clause-frame
+returns-in_err-info-clause-frame g c = usable_looks c.in_err-info.ensures.looks

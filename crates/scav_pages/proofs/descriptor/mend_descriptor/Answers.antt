@@ -1,6 +1,7 @@
 use Rattle.std.proofs.Common.{◌≡◌, ◌+◌, suc, ap, ◌∙◌, sym, subst, arith}
 use Rattle.disk_records.specs.Addresses.{pages_of}
 use Rattle.disk_records.specs.Tapes.{pack}
+use Rattle.disk_records.proofs.Framing.{usable_twice}
 use Rattle.disk_records.proofs.Growing.{alone_twice}
 use Rattle.pack_model.specs.sessions.Descriptor.{data_pages}
 use Rattle.scav_pages.specs.Ends.{AreWithin, MayDescribePage}
@@ -21,20 +22,32 @@ make_leader-requires-clause-within g c = subst (λ s. AreWithin (pages_of s) c.l
 pub returns-else-places-eq0-clause-alone : goal.returns-else-places-eq0-clause-alone
 returns-else-places-eq0-clause-alone g c = c.loop-number.invariant.alone
 
+pub returns-else-places-eq0-clause-frame : goal.returns-else-places-eq0-clause-frame
+returns-else-places-eq0-clause-frame g c = c.loop-number.invariant.frame
+
 pub returns-in_err-mend_data_page-clause-cause : goal.returns-in_err-mend_data_page-clause-cause
-returns-in_err-mend_data_page-clause-cause g c = cause_of_part c.in_err-mend_data_page.field-0.0 c.from_residual.result c.loop-number.invariant.alone c.in_err-mend_data_page.ensures.alone c.in_err-mend_data_page.ensures.cause c.from_residual.ensures.1
+returns-in_err-mend_data_page-clause-cause g c = cause_of_part c.in_err-mend_data_page.field-0.0 c.from_residual.result c.loop-number.invariant.alone c.loop-number.invariant.unfailed c.in_err-mend_data_page.ensures.alone c.in_err-mend_data_page.ensures.cause c.from_residual.ensures.1
 
 pub returns-in_err-mend_data_page-clause-alone : goal.returns-in_err-mend_data_page-clause-alone
 returns-in_err-mend_data_page-clause-alone g c = alone_twice c.loop-number.invariant.alone c.in_err-mend_data_page.ensures.alone
 
+pub returns-in_err-mend_data_page-clause-frame : goal.returns-in_err-mend_data_page-clause-frame
+returns-in_err-mend_data_page-clause-frame g c = usable_twice c.loop-number.invariant.alone c.in_err-mend_data_page.ensures.alone c.loop-number.invariant.frame c.in_err-mend_data_page.ensures.frame
+
 pub returns-in_err-make_leader-clause-cause : goal.returns-in_err-make_leader-clause-cause
-returns-in_err-make_leader-clause-cause g c = cause_of_part c.in_err-make_leader.field-0.0 c.from_residual-in_err-make_leader.result c.loop-number.invariant.alone c.in_err-make_leader.ensures.alone c.in_err-make_leader.ensures.cause c.from_residual-in_err-make_leader.ensures.1
+returns-in_err-make_leader-clause-cause g c = cause_of_part c.in_err-make_leader.field-0.0 c.from_residual-in_err-make_leader.result c.loop-number.invariant.alone c.loop-number.invariant.unfailed c.in_err-make_leader.ensures.alone c.in_err-make_leader.ensures.cause c.from_residual-in_err-make_leader.ensures.1
 
 pub returns-in_err-make_leader-clause-alone : goal.returns-in_err-make_leader-clause-alone
 returns-in_err-make_leader-clause-alone g c = alone_twice c.loop-number.invariant.alone c.in_err-make_leader.ensures.alone
 
+pub returns-in_err-make_leader-clause-frame : goal.returns-in_err-make_leader-clause-frame
+returns-in_err-make_leader-clause-frame g c = usable_twice c.loop-number.invariant.alone c.in_err-make_leader.ensures.alone c.loop-number.invariant.frame c.in_err-make_leader.ensures.frame
+
 pub returns-in_ok-make_leader-clause-alone : goal.returns-in_ok-make_leader-clause-alone
 returns-in_ok-make_leader-clause-alone g c = alone_twice c.loop-number.invariant.alone c.in_ok-make_leader.ensures.alone
+
+pub returns-in_ok-make_leader-clause-frame : goal.returns-in_ok-make_leader-clause-frame
+returns-in_ok-make_leader-clause-frame g c = usable_twice c.loop-number.invariant.alone c.in_ok-make_leader.ensures.alone c.loop-number.invariant.frame c.in_ok-make_leader.ensures.frame
 
 pub returns-in_err-mend_data_page-clause-does : goal.returns-in_err-mend_data_page-clause-does
 returns-in_err-mend_data_page-clause-does g c = λ told may.
@@ -49,6 +62,8 @@ loop-number-preserved g c =
     let more : suc c.loop-number.number ≡ c.loop-number.number + 1 = omega arith in
     record {
       alone = alone_twice so_far.alone next.alone;
+      unfailed = next.cause ∙ so_far.unfailed;
+      frame = usable_twice so_far.alone next.alone so_far.frame next.frame;
       first = next.first;
       within = subst (λ s. AreWithin (pages_of s) places) so_far.alone.grown.form next.within;
       going = λ told may. going_does (so_far.going told may) next.alone.grown (next.does told (so_far.described told may));

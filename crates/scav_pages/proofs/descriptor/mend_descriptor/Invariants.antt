@@ -1,5 +1,7 @@
 use Rattle.std.proofs.Common.{◌≤◌, IsTrue}
 use Rattle.disk_records.specs.Addresses.{pages_of}
+use Rattle.disk_records.specs.Causes.{Unfailed}
+use Rattle.disk_records.specs.Frames.{WritesUsable}
 use Rattle.disk_records.specs.Tapes.{DiskAlone, pack}
 use Rattle.scav_pages.specs.Ends.{AreWithin, MayDescribe, MayDescribePage}
 use Rattle.scav_pages.proofs.Doing.{Going}
@@ -11,6 +13,8 @@ invariant-loop-number g l =
     let now = g.D.Tape.tape l.disk in
     record {
       alone : DiskAlone old now;
+      unfailed : Unfailed old now;
+      frame : WritesUsable g.D.Tape.told old now;
       first : 1 ≤ l.from;
       within : AreWithin (pages_of old.form) l.places;
       going : IsTrue g.D.Tape.told → MayDescribe (pack old) l.fn.places l.fn.from → Going old now;

@@ -1,6 +1,9 @@
 use Rattle.std.proofs.Common.{◌≡◌, true, IsTrue, Some, IfSome, refl, ap, sym, subst, ◌∙◌, rules}
 use Rattle.std.specs.Option.{option_or}
+use Rattle.disk_records.specs.Causes.{Unfailed}
+use Rattle.disk_records.specs.Frames.{WritesUsable}
 use Rattle.disk_records.specs.Tapes.{DiskAlone, pack}
+use Rattle.disk_records.proofs.Framing.{usable_looks, usable_twice}
 use Rattle.disk_records.proofs.Growing.{alone_here, alone_twice}
 use Rattle.disk_records.proofs.Looking.{looks_pack}
 use Rattle.scav_table.specs.Laws.{IsNextRow}
@@ -15,21 +18,26 @@ use Rattle.scav_pages.proofs.directories.cut_directories.Goals as goal
 use Rattle.scav_pages.proofs.directories.cut_directories.Goals.{then-leaves+in_ok-cut_directory, else-leaves}
 
 pub returns-in_err-pass-clause-cause : goal.returns-in_err-pass-clause-cause
-returns-in_err-pass-clause-cause g c = cause_of_swept c.in_err-pass.field-0.0 c.from_residual.result (alone_here _) c.in_err-pass.ensures.looks.alone c.in_err-pass.ensures.cause c.from_residual.ensures.1
+returns-in_err-pass-clause-cause g c = cause_of_swept c.in_err-pass.field-0.0 c.from_residual.result (alone_here _) refl c.in_err-pass.ensures.looks.alone c.in_err-pass.ensures.cause c.from_residual.ensures.1
 
 pub loop-row-init : goal.loop-row-init
 loop-row-init g c = record {
   alone = c.in_ok-pass.ensures.looks.alone;
+  unfailed = c.in_ok-pass.ensures.cause;
+  frame = usable_looks c.in_ok-pass.ensures.looks;
   stands = c.in_ok-pass.ensures.stands;
   cuts = subst (λ l. CutsTo g.D.Tape.told (g.D.Tape.tape c.args.disk.now) (g.D.Tape.tape c.begin.new.disk) l c.new-dir.result) (sym c.in_ok-pass.ensures.first)
       (cuts_start c.new-dir.result c.in_ok-pass.ensures.looks (λ k. g.met.D.Disk.formed c.args.disk.now k) c.new-dir.ensures.none c.new-dir.ensures.start);
 }
 
 pub returns-in_err-row-clause-cause : goal.returns-in_err-row-clause-cause
-returns-in_err-row-clause-cause g c = cause_of_part c.in_err-row.field-0.0 c.from_residual-in_err-row.result c.loop-row.invariant.alone c.in_err-row.ensures.looks.alone c.in_err-row.ensures.cause c.from_residual-in_err-row.ensures.1
+returns-in_err-row-clause-cause g c = cause_of_part c.in_err-row.field-0.0 c.from_residual-in_err-row.result c.loop-row.invariant.alone c.loop-row.invariant.unfailed c.in_err-row.ensures.looks.alone c.in_err-row.ensures.cause c.from_residual-in_err-row.ensures.1
 
 pub returns-in_err-row-clause-alone : goal.returns-in_err-row-clause-alone
 returns-in_err-row-clause-alone g c = alone_twice c.loop-row.invariant.alone c.in_err-row.ensures.looks.alone
+
+pub returns-in_err-row-clause-frame : goal.returns-in_err-row-clause-frame
+returns-in_err-row-clause-frame g c = usable_twice c.loop-row.invariant.alone c.in_err-row.ensures.looks.alone c.loop-row.invariant.frame (usable_looks c.in_err-row.ensures.looks)
 
 pub returns-in_err-row-clause-does : goal.returns-in_err-row-clause-does
 returns-in_err-row-clause-does g c = λ told cleared.
@@ -37,10 +45,13 @@ returns-in_err-row-clause-does g c = λ told cleared.
     does_stop_looking c.in_err-row.field-0.0 c.from_residual-in_err-row.result (c.loop-row.invariant.cuts.going told cleared) read.looks told (read.found told) (read.want told) c.from_residual-in_err-row.ensures.1
 
 pub returns-in_err-cut_directory-clause-cause : goal.returns-in_err-cut_directory-clause-cause
-returns-in_err-cut_directory-clause-cause g c = cause_of_part c.in_err-cut_directory.field-0.0 c.from_residual-in_err-cut_directory.result (alone_twice c.loop-row.invariant.alone c.in_ok-row.ensures.looks.alone) c.in_err-cut_directory.ensures.alone c.in_err-cut_directory.ensures.cause c.from_residual-in_err-cut_directory.ensures.1
+returns-in_err-cut_directory-clause-cause g c = cause_of_part c.in_err-cut_directory.field-0.0 c.from_residual-in_err-cut_directory.result (alone_twice c.loop-row.invariant.alone c.in_ok-row.ensures.looks.alone) (c.in_ok-row.ensures.cause ∙ c.loop-row.invariant.unfailed) c.in_err-cut_directory.ensures.alone c.in_err-cut_directory.ensures.cause c.from_residual-in_err-cut_directory.ensures.1
 
 pub returns-in_err-cut_directory-clause-alone : goal.returns-in_err-cut_directory-clause-alone
 returns-in_err-cut_directory-clause-alone g c = alone_twice (alone_twice c.loop-row.invariant.alone c.in_ok-row.ensures.looks.alone) c.in_err-cut_directory.ensures.alone
+
+pub returns-in_err-cut_directory-clause-frame : goal.returns-in_err-cut_directory-clause-frame
+returns-in_err-cut_directory-clause-frame g c = usable_twice (alone_twice c.loop-row.invariant.alone c.in_ok-row.ensures.looks.alone) c.in_err-cut_directory.ensures.alone (usable_twice c.loop-row.invariant.alone c.in_ok-row.ensures.looks.alone c.loop-row.invariant.frame (usable_looks c.in_ok-row.ensures.looks)) c.in_err-cut_directory.ensures.frame
 
 pub returns-in_err-cut_directory-clause-does : goal.returns-in_err-cut_directory-clause-does
 returns-in_err-cut_directory-clause-does g c = λ told cleared.
@@ -82,8 +93,21 @@ loop-row-preserved g c =
             same = λ other. contrary (c.leaves.ensures.1 other) w.if-leaves.false;
           }))
     ] in
+    let so_far : Unfailed a (g.D.Tape.tape c.next_row.new.disk) = c.in_ok-row.ensures.cause ∙ c.loop-row.invariant.unfailed in
+    let unfailed : Unfailed a (g.D.Tape.tape c.if-leaves.disk) = elim c.if-leaves.branch [
+      | then-leaves+in_ok-cut_directory w ↦ subst (λ d. Unfailed a (g.D.Tape.tape d)) (sym w.disk-is) (w.in_ok-cut_directory.ensures.cause ∙ so_far)
+      | else-leaves w ↦ subst (λ d. Unfailed a (g.D.Tape.tape d)) (sym w.disk-is) so_far
+    ] in
+    let inv = c.loop-row.invariant in
+    let looked = usable_twice inv.alone c.in_ok-row.ensures.looks.alone inv.frame (usable_looks c.in_ok-row.ensures.looks) in
+    let frame : WritesUsable g.D.Tape.told a (g.D.Tape.tape c.if-leaves.disk) = elim c.if-leaves.branch [
+      | then-leaves+in_ok-cut_directory w ↦ subst (λ d. WritesUsable g.D.Tape.told a (g.D.Tape.tape d)) (sym w.disk-is) (usable_twice before w.in_ok-cut_directory.ensures.alone looked w.in_ok-cut_directory.ensures.frame)
+      | else-leaves w ↦ subst (λ d. WritesUsable g.D.Tape.told a (g.D.Tape.tape d)) (sym w.disk-is) looked
+    ] in
     record {
       alone = alone_twice ready.alone c.in_ok-meet_page.ensures.looks.alone;
+      unfailed = c.in_ok-meet_page.ensures.cause ∙ unfailed;
+      frame = usable_twice ready.alone c.in_ok-meet_page.ensures.looks.alone frame (usable_looks c.in_ok-meet_page.ensures.looks);
       stands = stands_same (pack (g.D.Tape.tape c.meet_page.new.disk)) ready.stands (λ k. looks_pack c.in_ok-meet_page.ensures.looks k);
       cuts = subst (λ l. CutsTo g.D.Tape.told (g.D.Tape.tape c.args.disk.now) (g.D.Tape.tape c.meet_page.new.disk) l c.meet_page.new.dir) (sym last_is)
           (cuts_row ready.cuts c.in_ok-meet_page.ensures.looks first_of_all ready.same c.in_ok-meet_page.ensures.hand (λ k. c.in_ok-meet_page.ensures.read k (pack (g.D.Tape.tape c.args.disk.now)) c.loop-row.pass.last (ready.cuts.read k) (first_of_all k) (row_there (ready.cuts.stays k) (first_of_all k)).0));
@@ -97,7 +121,28 @@ returns-in_err-meet_page-clause-cause g c =
       | then-leaves+in_ok-cut_directory w ↦ subst (λ d. DiskAlone a (g.D.Tape.tape d)) (sym w.disk-is) (alone_twice read w.in_ok-cut_directory.ensures.alone)
       | else-leaves w ↦ subst (λ d. DiskAlone a (g.D.Tape.tape d)) (sym w.disk-is) read
     ] in
-    cause_of_part c.in_err-meet_page.field-0.0 c.from_residual-in_err-meet_page.result before c.in_err-meet_page.ensures.looks.alone c.in_err-meet_page.ensures.cause c.from_residual-in_err-meet_page.ensures.1
+    let so_far : Unfailed a (g.D.Tape.tape c.next_row.new.disk) = c.in_ok-row.ensures.cause ∙ c.loop-row.invariant.unfailed in
+    let unfailed : Unfailed a (g.D.Tape.tape c.if-leaves.disk) = elim c.if-leaves.branch [
+      | then-leaves+in_ok-cut_directory w ↦ subst (λ d. Unfailed a (g.D.Tape.tape d)) (sym w.disk-is) (w.in_ok-cut_directory.ensures.cause ∙ so_far)
+      | else-leaves w ↦ subst (λ d. Unfailed a (g.D.Tape.tape d)) (sym w.disk-is) so_far
+    ] in
+    cause_of_part c.in_err-meet_page.field-0.0 c.from_residual-in_err-meet_page.result before unfailed c.in_err-meet_page.ensures.looks.alone c.in_err-meet_page.ensures.cause c.from_residual-in_err-meet_page.ensures.1
+
+pub returns-in_err-meet_page-clause-frame : goal.returns-in_err-meet_page-clause-frame
+returns-in_err-meet_page-clause-frame g c =
+    let a = g.D.Tape.tape c.args.disk.now in
+    let inv = c.loop-row.invariant in
+    let before = alone_twice inv.alone c.in_ok-row.ensures.looks.alone in
+    let alone : DiskAlone a (g.D.Tape.tape c.if-leaves.disk) = elim c.if-leaves.branch [
+      | then-leaves+in_ok-cut_directory w ↦ subst (λ d. DiskAlone a (g.D.Tape.tape d)) (sym w.disk-is) (alone_twice before w.in_ok-cut_directory.ensures.alone)
+      | else-leaves w ↦ subst (λ d. DiskAlone a (g.D.Tape.tape d)) (sym w.disk-is) before
+    ] in
+    let looked = usable_twice inv.alone c.in_ok-row.ensures.looks.alone inv.frame (usable_looks c.in_ok-row.ensures.looks) in
+    let frame : WritesUsable g.D.Tape.told a (g.D.Tape.tape c.if-leaves.disk) = elim c.if-leaves.branch [
+      | then-leaves+in_ok-cut_directory w ↦ subst (λ d. WritesUsable g.D.Tape.told a (g.D.Tape.tape d)) (sym w.disk-is) (usable_twice before w.in_ok-cut_directory.ensures.alone looked w.in_ok-cut_directory.ensures.frame)
+      | else-leaves w ↦ subst (λ d. WritesUsable g.D.Tape.told a (g.D.Tape.tape d)) (sym w.disk-is) looked
+    ] in
+    usable_twice alone c.in_err-meet_page.ensures.looks.alone frame (usable_looks c.in_err-meet_page.ensures.looks)
 
 pub returns-in_err-meet_page-clause-alone : goal.returns-in_err-meet_page-clause-alone
 returns-in_err-meet_page-clause-alone g c =
@@ -170,13 +215,19 @@ returns-in_err-meet_page-clause-does g c = λ told cleared.
 
 pub returns-clause-cause : goal.returns-clause-cause
 returns-clause-cause g c =
-    cause_sooner (g.D.Tape.tape c.args.disk.now) (g.D.Tape.tape c.next_row.new.disk) (g.D.Tape.tape c.cut_directory-2.new.disk) c.cut_directory-2.result (alone_twice c.loop-row.invariant.alone c.in_ok-row.ensures.looks.alone).grown c.cut_directory-2.ensures.cause
+    cause_sooner (g.D.Tape.tape c.args.disk.now) (g.D.Tape.tape c.next_row.new.disk) (g.D.Tape.tape c.cut_directory-2.new.disk) c.cut_directory-2.result (c.in_ok-row.ensures.cause ∙ c.loop-row.invariant.unfailed) c.cut_directory-2.ensures.cause
 
 pub returns-clause-alone : goal.returns-clause-alone
 returns-clause-alone g c = alone_twice (alone_twice c.loop-row.invariant.alone c.in_ok-row.ensures.looks.alone) c.cut_directory-2.ensures.alone
+
+pub returns-clause-frame : goal.returns-clause-frame
+returns-clause-frame g c = usable_twice (alone_twice c.loop-row.invariant.alone c.in_ok-row.ensures.looks.alone) c.cut_directory-2.ensures.alone (usable_twice c.loop-row.invariant.alone c.in_ok-row.ensures.looks.alone c.loop-row.invariant.frame (usable_looks c.in_ok-row.ensures.looks)) c.cut_directory-2.ensures.frame
 
 pub returns-clause-does : goal.returns-clause-does
 returns-clause-does g c = λ told cleared.
     let x = cuts_look c.loop-row.invariant.cuts c.in_ok-row.ensures.looks in
     let none = λ (k : IsTrue g.D.Tape.told). subst (IsNextRow (pack (g.D.Tape.tape c.loop-row.disk)) c.loop-row.pass.last) c.in_default.is (c.in_ok-row.ensures.next k) in
     cuts_done x (λ k. (left_last c.loop-row.invariant.cuts none k).1) c.cut_directory-2.result c.cut_directory-2.ensures.alone.grown c.cut_directory-2.ensures.does (λ k. (left_last c.loop-row.invariant.cuts none k).0) told cleared
+
+pub returns-in_err-pass-clause-frame : goal.returns-in_err-pass-clause-frame
+returns-in_err-pass-clause-frame g c = usable_looks c.in_err-pass.ensures.looks

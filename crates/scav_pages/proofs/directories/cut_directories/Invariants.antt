@@ -1,3 +1,5 @@
+use Rattle.disk_records.specs.Causes.{Unfailed}
+use Rattle.disk_records.specs.Frames.{WritesUsable}
 use Rattle.disk_records.specs.Tapes.{DiskAlone, pack}
 use Rattle.scav_table.specs.Passes.{Stands}
 use Rattle.scav_pages.proofs.Ahead.{ahead}
@@ -10,6 +12,8 @@ invariant-loop-row g l =
     let now = g.D.Tape.tape l.disk in
     record {
       alone : DiskAlone old now;
+      unfailed : Unfailed old now;
+      frame : WritesUsable g.D.Tape.told old now;
       stands : Stands g.D.Tape.told (pack now) l.table l.pass;
       cuts : CutsTo g.D.Tape.told old now l.pass.last l.dir;
     }

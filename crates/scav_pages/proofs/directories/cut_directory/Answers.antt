@@ -4,9 +4,11 @@ use Rattle.disk_records.specs.Commands.{relabel_writes}
 use Rattle.disk_records.specs.Labels.{tag}
 use Rattle.disk_records.specs.Packs.{after, carried, sector_at}
 use Rattle.disk_records.specs.Tapes.{pack}
+use Rattle.disk_records.proofs.Framing.{usable_looks, usable_twice}
 use Rattle.disk_records.proofs.Growing.{alone_here, alone_twice}
 use Rattle.disk_records.proofs.Looking.{looks_pack}
 use Rattle.disk_records.specs.Packs.{Pack}
+use Rattle.label_check.proofs.Framing.{usable_relabel}
 use Rattle.laws_mend.specs.Parts.{Cleared}
 use Rattle.scav_pages.specs.declared.directory.Directory.{Directory}
 use Rattle.scav_pages.specs.Parts.{DirectoryEnds, RelabelsHand}
@@ -88,7 +90,7 @@ pub returns-in_err-info-clause-wrote : goal.returns-in_err-info-clause-wrote
 returns-in_err-info-clause-wrote g c = λ told. no_ok _ _ c.from_residual.result c.from_residual.ensures.1
 
 pub returns-in_err-info-clause-cause : goal.returns-in_err-info-clause-cause
-returns-in_err-info-clause-cause g c = cause_of_guarded c.in_err-info.field-0.0 c.from_residual.result (alone_here _) c.in_err-info.ensures.looks.alone c.in_err-info.ensures.cause c.from_residual.ensures.1
+returns-in_err-info-clause-cause g c = cause_of_guarded c.in_err-info.field-0.0 c.from_residual.result (alone_here _) refl c.in_err-info.ensures.looks.alone c.in_err-info.ensures.cause c.from_residual.ensures.1
 
 pub relabel-requires-clause-place : goal.relabel-requires-clause-place
 relabel-requires-clause-place g c = let high = c.if-dir-pages.false in let is = c.pages.ensures ∙ ap pages_of (c.shape.ensures ∙ sym c.in_ok-info.ensures.looks.alone.grown.form) in omega (arith, high, is)
@@ -101,13 +103,19 @@ pub returns-in_err-relabel-clause-wrote : goal.returns-in_err-relabel-clause-wro
 returns-in_err-relabel-clause-wrote g c = λ told. no_ok _ _ c.from_residual-in_err-relabel.result c.from_residual-in_err-relabel.ensures.1
 
 pub returns-in_err-relabel-clause-cause : goal.returns-in_err-relabel-clause-cause
-returns-in_err-relabel-clause-cause g c = cause_of_guarded c.in_err-relabel.field-0.0 c.from_residual-in_err-relabel.result c.in_ok-info.ensures.looks.alone c.in_err-relabel.ensures.alone c.in_err-relabel.ensures.cause c.from_residual-in_err-relabel.ensures.1
+returns-in_err-relabel-clause-cause g c = cause_of_guarded c.in_err-relabel.field-0.0 c.from_residual-in_err-relabel.result c.in_ok-info.ensures.looks.alone c.in_ok-info.ensures.cause c.in_err-relabel.ensures.alone c.in_err-relabel.ensures.cause c.from_residual-in_err-relabel.ensures.1
 
 pub returns-in_err-relabel-clause-alone : goal.returns-in_err-relabel-clause-alone
 returns-in_err-relabel-clause-alone g c = alone_twice c.in_ok-info.ensures.looks.alone c.in_err-relabel.ensures.alone
 
+pub returns-in_err-relabel-clause-frame : goal.returns-in_err-relabel-clause-frame
+returns-in_err-relabel-clause-frame g c = usable_twice c.in_ok-info.ensures.looks.alone c.in_err-relabel.ensures.alone (usable_looks c.in_ok-info.ensures.looks) (usable_relabel c.in_err-relabel.ensures.guarded)
+
 pub returns-clause-alone : goal.returns-clause-alone
 returns-clause-alone g c = alone_twice c.in_ok-info.ensures.looks.alone c.in_ok-relabel.ensures.alone
+
+pub returns-clause-frame : goal.returns-clause-frame
+returns-clause-frame g c = usable_twice c.in_ok-info.ensures.looks.alone c.in_ok-relabel.ensures.alone (usable_looks c.in_ok-info.ensures.looks) (usable_relabel c.in_ok-relabel.ensures.guarded)
 
 pub returns-clause-wrote : goal.returns-clause-wrote
 returns-clause-wrote g c = λ told.
@@ -161,3 +169,6 @@ returns-clause-does g c = λ told cleared may.
     (subst (λ p. Mends p (relabel_writes dir.at label (sector_at p dir.at).value)) (sym same) (cut_mends (pack a) dir c.in-Some.fid cleared hand may living isdir differs label c.in-Ok.number number names count)) done)
     (cut_ends (pack a) dir c.in-Some.fid cleared hand may living isdir differs label c.in-Ok.number number names count (pack (g.D.Tape.tape c.relabel.new.disk))
     (pack_done grown done ∙ ap (λ p. after p (relabel_writes dir.at label (sector_at p dir.at).value)) same))
+
+pub returns-in_err-info-clause-frame : goal.returns-in_err-info-clause-frame
+returns-in_err-info-clause-frame g c = usable_looks c.in_err-info.ensures.looks

@@ -78,4 +78,4 @@ returns-else-page-from-clause-read g c = λ told p last is first at.
     (λ here. absurd (let one = c.if-page-from.false in one (omega (arith, here, place, from, number)))) (λ other. refl)
 
 pub returns-in_err-info-clause-cause : goal.returns-in_err-info-clause-cause
-returns-in_err-info-clause-cause g c = cause_of_guarded c.in_err-info.field-0.0 c.from_residual.result (alone_here _) c.in_err-info.ensures.looks.alone c.in_err-info.ensures.cause c.from_residual.ensures.1
+returns-in_err-info-clause-cause g c = cause_of_guarded c.in_err-info.field-0.0 c.from_residual.result (alone_here _) refl c.in_err-info.ensures.looks.alone c.in_err-info.ensures.cause c.from_residual.ensures.1

@@ -1,4 +1,4 @@
-use Rattle.std.proofs.Common.{◌≡◌, ◌<◌, ◌+◌, Some, true, false, ◌∙◌, sym, subst, arith}
+use Rattle.std.proofs.Common.{◌≡◌, ◌<◌, ◌+◌, Some, true, false, ◌∙◌, sym, subst, arith, refl}
 use Rattle.alto_words.specs.Fid.{is_fid, disk_descriptor}
 use Rattle.disk_records.specs.Tapes.{pack}
 use Rattle.disk_records.proofs.Growing.{alone_here}
@@ -28,7 +28,7 @@ returns-in_err-claim_page-clause-does g c = λ told may.
     does_stop_part c.in_err-claim_page.field-0.0 c.from_residual.result (going_here a) c.in_err-claim_page.ensures.alone.grown (c.in_err-claim_page.ensures.does told wants) c.from_residual.ensures.1
 
 pub returns-in_err-claim_page-clause-cause : goal.returns-in_err-claim_page-clause-cause
-returns-in_err-claim_page-clause-cause g c = cause_of_part c.in_err-claim_page.field-0.0 c.from_residual.result (alone_here _) c.in_err-claim_page.ensures.alone c.in_err-claim_page.ensures.cause c.from_residual.ensures.1
+returns-in_err-claim_page-clause-cause g c = cause_of_part c.in_err-claim_page.field-0.0 c.from_residual.result (alone_here _) refl c.in_err-claim_page.ensures.alone c.in_err-claim_page.ensures.cause c.from_residual.ensures.1
 
 pub returns-clause-does : goal.returns-clause-does
 returns-clause-does g c = λ told may.

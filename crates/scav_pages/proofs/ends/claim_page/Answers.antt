@@ -1,12 +1,14 @@
-use Rattle.std.proofs.Common.{◌≡◌, ◌<◌, Some, true, false, ap, ◌∙◌, sym, subst, rules, replicate}
+use Rattle.std.proofs.Common.{◌≡◌, ◌<◌, Some, true, false, ap, ◌∙◌, sym, subst, rules, replicate, refl}
 use Rattle.disk_records.specs.Addresses.{pages_of}
 use Rattle.disk_records.specs.Labels.{page_of}
 use Rattle.disk_records.specs.Packs.{after, is_free_at}
 use Rattle.disk_records.specs.Commands.{claim_writes}
 use Rattle.disk_records.specs.Tapes.{pack}
 use Rattle.disk_records.specs.Words.{word}
+use Rattle.disk_records.proofs.Framing.{usable_looks, usable_twice}
 use Rattle.disk_records.proofs.Growing.{alone_here, alone_twice}
 use Rattle.disk_records.proofs.Looking.{looks_pack}
+use Rattle.label_check.proofs.Framing.{usable_claim}
 use Rattle.scav_pages.specs.Free.{NoneFreeBelow}
 use Rattle.scav_pages.proofs.Causing.{cause_of_guarded, cause_of_part}
 use Rattle.scav_pages.proofs.Doing.{does_ok, does_stop_claim, does_stop_looking, going_done, going_here, going_looks, pack_done}
@@ -36,7 +38,7 @@ pub returns-in_err-at-clause-place : goal.returns-in_err-at-clause-place
 returns-in_err-at-clause-place g c = no_ok _ _ c.from_residual.result c.from_residual.ensures.1
 
 pub returns-in_err-at-clause-cause : goal.returns-in_err-at-clause-cause
-returns-in_err-at-clause-cause g c = cause_of_part c.in_err-at.field-0.0 c.from_residual.result (alone_here _) c.in_err-at.ensures.looks.alone c.in_err-at.ensures.cause c.from_residual.ensures.1
+returns-in_err-at-clause-cause g c = cause_of_part c.in_err-at.field-0.0 c.from_residual.result (alone_here _) refl c.in_err-at.ensures.looks.alone c.in_err-at.ensures.cause c.from_residual.ensures.1
 
 pub claim-requires-clause-place : goal.claim-requires-clause-place
 claim-requires-clause-place g c = subst (λ s. c.in_ok-at.at < pages_of s) (sym c.in_ok-at.ensures.looks.alone.grown.form) c.in_ok-at.ensures.place
@@ -48,13 +50,19 @@ pub returns-in_err-claim-clause-place : goal.returns-in_err-claim-clause-place
 returns-in_err-claim-clause-place g c = no_ok _ _ c.from_residual-in_err-claim.result c.from_residual-in_err-claim.ensures.1
 
 pub returns-in_err-claim-clause-cause : goal.returns-in_err-claim-clause-cause
-returns-in_err-claim-clause-cause g c = cause_of_guarded c.in_err-claim.field-0.0 c.from_residual-in_err-claim.result c.in_ok-at.ensures.looks.alone c.in_err-claim.ensures.alone c.in_err-claim.ensures.cause c.from_residual-in_err-claim.ensures.1
+returns-in_err-claim-clause-cause g c = cause_of_guarded c.in_err-claim.field-0.0 c.from_residual-in_err-claim.result c.in_ok-at.ensures.looks.alone c.in_ok-at.ensures.cause c.in_err-claim.ensures.alone c.in_err-claim.ensures.cause c.from_residual-in_err-claim.ensures.1
 
 pub returns-in_err-claim-clause-alone : goal.returns-in_err-claim-clause-alone
 returns-in_err-claim-clause-alone g c = alone_twice c.in_ok-at.ensures.looks.alone c.in_err-claim.ensures.alone
 
+pub returns-in_err-claim-clause-frame : goal.returns-in_err-claim-clause-frame
+returns-in_err-claim-clause-frame g c = usable_twice c.in_ok-at.ensures.looks.alone c.in_err-claim.ensures.alone (usable_looks c.in_ok-at.ensures.looks) (usable_claim c.in_err-claim.ensures.guarded)
+
 pub returns-clause-alone : goal.returns-clause-alone
 returns-clause-alone g c = alone_twice c.in_ok-at.ensures.looks.alone c.in_ok-claim.ensures.alone
+
+pub returns-clause-frame : goal.returns-clause-frame
+returns-clause-frame g c = usable_twice c.in_ok-at.ensures.looks.alone c.in_ok-claim.ensures.alone (usable_looks c.in_ok-at.ensures.looks) (usable_claim c.in_ok-claim.ensures.guarded)
 
 pub returns-in_err-claim-clause-does : goal.returns-in_err-claim-clause-does
 returns-in_err-claim-clause-does g c = λ told may.
@@ -102,3 +110,6 @@ returns-clause-does g c = λ told may.
       wrote = record { was_free = found.free; label = label; names = names; count = count; left = left };
       none_below = subst (λ n. NoneFreeBelow q n) (sym c.in_ok-at.ensures.next) (none_below_claimed (pack a) q c.args.page c.args.from.now at label (replicate 256 0) may.none_below found names left);
     })
+
+pub returns-in_err-at-clause-frame : goal.returns-in_err-at-clause-frame
+returns-in_err-at-clause-frame g c = usable_looks c.in_err-at.ensures.looks

@@ -1,5 +1,7 @@
 use Rattle.std.proofs.Common.{◌≤◌, ◌<◌}
 use Rattle.disk_records.specs.Addresses.{pages_of}
+use Rattle.disk_records.specs.Causes.{Unfailed}
+use Rattle.disk_records.specs.Frames.{WritesUsable}
 use Rattle.disk_records.specs.Tapes.{DiskAlone, pack}
 use Rattle.scav_table.specs.Passes.{Stands}
 use Rattle.scav_pages.specs.Ends.{AreWithin}
@@ -14,6 +16,8 @@ invariant-loop-row g l =
     let now = g.D.Tape.tape l.disk in
     record {
       alone : DiskAlone old now;
+      unfailed : Unfailed old now;
+      frame : WritesUsable g.D.Tape.told old now;
       stands : Stands g.D.Tape.told (pack now) l.table l.pass;
       first : 1 ≤ l.from;
       within : AreWithin (pages_of old.form) l.places;

@@ -10,7 +10,7 @@ pub returns-in_err-is_free-clause-looks : goal.returns-in_err-is_free-clause-loo
 returns-in_err-is_free-clause-looks g c = looks_twice _ c.loop-at.invariant.looks c.in_err-is_free.ensures.looks (let end = c.loop-at.invariant.end in omega (arith, end))
 
 pub returns-in_err-is_free-clause-cause : goal.returns-in_err-is_free-clause-cause
-returns-in_err-is_free-clause-cause g c = cause_of_part c.in_err-is_free.field-0.0 c.from_residual.result c.loop-at.invariant.looks.alone c.in_err-is_free.ensures.looks.alone c.in_err-is_free.ensures.cause c.from_residual.ensures.1
+returns-in_err-is_free-clause-cause g c = cause_of_part c.in_err-is_free.field-0.0 c.from_residual.result c.loop-at.invariant.looks.alone c.loop-at.invariant.unfailed c.in_err-is_free.ensures.looks.alone c.in_err-is_free.ensures.cause c.from_residual.ensures.1
 
 pub returns-then-branch-clause-looks : goal.returns-then-branch-clause-looks
 returns-then-branch-clause-looks g c = looks_twice _ c.loop-at.invariant.looks c.in_ok-is_free.ensures.looks (let end = c.loop-at.invariant.end in omega (arith, end))
@@ -23,6 +23,7 @@ loop-at-preserved g c =
       from = refl;
       few = omega arith;
       looks = looks_twice _ inv.looks c.in_ok-is_free.ensures.looks (omega arith);
+      unfailed = c.in_ok-is_free.ensures.cause ∙ inv.unfailed;
       none = λ told.
           none_more (pack (g.D.Tape.tape c.args.disk.now)) c.args.from.now c.loop-at.at (inv.none told)
           (ap (λ p. is_free_at p c.loop-at.at) (sym (looks_pack inv.looks told)) ∙ sym (c.in_ok-is_free.ensures.free told) ∙ c.if-branch.false);

@@ -1,5 +1,6 @@
 use Rattle.std.proofs.Common.{◌≡◌, ℕ, ◌-◌, ◌<◌, ◌≤◌, IsTrue, false}
 use Rattle.disk_records.specs.Addresses.{pages_of}
+use Rattle.disk_records.specs.Causes.{Unfailed}
 use Rattle.disk_records.specs.Packs.{is_free_at}
 use Rattle.disk_records.specs.Tapes.{Looks, pack}
 use Rattle.scav_pages.proofs.free.next_free.Given as goal
@@ -13,5 +14,6 @@ invariant-loop-at g l =
       from : l.from ≡ l.at;
       few : l.at - l.fn.from ≤ l.end;
       looks : Looks g.D.Tape.told (l.at - l.fn.from) old now;
+      unfailed : Unfailed old now;
       none : IsTrue g.D.Tape.told → (k : ℕ) → l.fn.from ≤ k → k < l.at → is_free_at (pack old) k ≡ false;
     }

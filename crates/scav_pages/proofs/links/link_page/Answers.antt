@@ -1,10 +1,12 @@
-use Rattle.std.proofs.Common.{◌≡◌, ◌≢◌, ◌≤◌, Some, sym, ap, subst, ◌∙◌, arith}
+use Rattle.std.proofs.Common.{◌≡◌, ◌≢◌, ◌≤◌, Some, sym, ap, subst, ◌∙◌, arith, refl}
 use Rattle.disk_records.specs.Commands.{relabel_writes}
 use Rattle.disk_records.specs.Packs.{after, carried, sector_at}
 use Rattle.disk_records.specs.Tapes.{pack}
 use Rattle.disk_records.specs.Words.{word}
+use Rattle.disk_records.proofs.Framing.{usable_looks, usable_twice}
 use Rattle.disk_records.proofs.Growing.{alone_here, alone_twice}
 use Rattle.disk_records.proofs.Looking.{looks_pack}
+use Rattle.label_check.proofs.Framing.{usable_relabel}
 use Rattle.scav_pages.specs.Links.{PageLinked, WritesPage}
 use Rattle.scav_pages.proofs.Causing.{cause_of_guarded}
 use Rattle.scav_pages.proofs.Changing.{other_word}
@@ -22,16 +24,22 @@ label_of-label-requires g c =
     subst (λ n. n ≤ 512) (sym (ap (λ i. i.bytes) h.tells)) (page_ranged c.read_page.new.buf.label c.args.page.now.row.page h.page.names).1
 
 pub returns-in_err-info-clause-cause : goal.returns-in_err-info-clause-cause
-returns-in_err-info-clause-cause g c = cause_of_guarded c.in_err-info.field-0.0 c.from_residual.result (alone_here _) c.in_err-info.ensures.looks.alone c.in_err-info.ensures.cause c.from_residual.ensures.1
+returns-in_err-info-clause-cause g c = cause_of_guarded c.in_err-info.field-0.0 c.from_residual.result (alone_here _) refl c.in_err-info.ensures.looks.alone c.in_err-info.ensures.cause c.from_residual.ensures.1
 
 pub returns-in_err-relabel-clause-cause : goal.returns-in_err-relabel-clause-cause
-returns-in_err-relabel-clause-cause g c = cause_of_guarded c.in_err-relabel.field-0.0 c.from_residual-in_err-relabel.result c.in_ok-info.ensures.looks.alone c.in_err-relabel.ensures.alone c.in_err-relabel.ensures.cause c.from_residual-in_err-relabel.ensures.1
+returns-in_err-relabel-clause-cause g c = cause_of_guarded c.in_err-relabel.field-0.0 c.from_residual-in_err-relabel.result c.in_ok-info.ensures.looks.alone c.in_ok-info.ensures.cause c.in_err-relabel.ensures.alone c.in_err-relabel.ensures.cause c.from_residual-in_err-relabel.ensures.1
 
 pub returns-in_err-relabel-clause-alone : goal.returns-in_err-relabel-clause-alone
 returns-in_err-relabel-clause-alone g c = alone_twice c.in_ok-info.ensures.looks.alone c.in_err-relabel.ensures.alone
 
+pub returns-in_err-relabel-clause-frame : goal.returns-in_err-relabel-clause-frame
+returns-in_err-relabel-clause-frame g c = usable_twice c.in_ok-info.ensures.looks.alone c.in_err-relabel.ensures.alone (usable_looks c.in_ok-info.ensures.looks) (usable_relabel c.in_err-relabel.ensures.guarded)
+
 pub returns-in_ok-relabel-clause-alone : goal.returns-in_ok-relabel-clause-alone
 returns-in_ok-relabel-clause-alone g c = alone_twice c.in_ok-info.ensures.looks.alone c.in_ok-relabel.ensures.alone
+
+pub returns-in_ok-relabel-clause-frame : goal.returns-in_ok-relabel-clause-frame
+returns-in_ok-relabel-clause-frame g c = usable_twice c.in_ok-info.ensures.looks.alone c.in_ok-relabel.ensures.alone (usable_looks c.in_ok-info.ensures.looks) (usable_relabel c.in_ok-relabel.ensures.guarded)
 
 pub returns-in_err-relabel-clause-does : goal.returns-in_err-relabel-clause-does
 returns-in_err-relabel-clause-does g c = λ told may.
@@ -99,3 +107,6 @@ returns-else-info-page-clause-does g c = λ told may.
     let next = sym (ap (λ s. word s.label 0) holds) ∙ sym (ap (λ i. i.next) h.tells) ∙ c.if-info-next.false in
     let previous = sym (ap (λ s. word s.label 1) holds) ∙ sym (ap (λ i. i.previous) h.tells) ∙ c.if-info-page.false in
     does_ok tt (going_looks (going_here a) h.looks told) (subst (λ q. PageLinked row.at (pack a) q tt) (sym (looks_pack h.looks told)) (linked_already may next previous))
+
+pub returns-in_err-info-clause-frame : goal.returns-in_err-info-clause-frame
+returns-in_err-info-clause-frame g c = usable_looks c.in_err-info.ensures.looks

@@ -1,4 +1,4 @@
-use Rattle.std.proofs.Common.{subst}
+use Rattle.std.proofs.Common.{subst, refl}
 use Rattle.disk_records.specs.Tapes.{pack}
 use Rattle.disk_records.proofs.Growing.{alone_here}
 use Rattle.scav_pages.specs.Links.{MayMeet}
@@ -20,7 +20,7 @@ returns-in_err-mend_page-clause-does g c = λ told may.
     does_stop_part c.in_err-mend_page.field-0.0 c.from_residual.result (going_here a) page.alone.grown (page.does told (may_mend c.link_between.result meets c.shape-shape.ensures c.link_between.ensures)) c.from_residual.ensures.1
 
 pub returns-in_err-mend_page-clause-cause : goal.returns-in_err-mend_page-clause-cause
-returns-in_err-mend_page-clause-cause g c = cause_of_part c.in_err-mend_page.field-0.0 c.from_residual.result (alone_here _) c.in_err-mend_page.ensures.alone c.in_err-mend_page.ensures.cause c.from_residual.ensures.1
+returns-in_err-mend_page-clause-cause g c = cause_of_part c.in_err-mend_page.field-0.0 c.from_residual.result (alone_here _) refl c.in_err-mend_page.ensures.alone c.in_err-mend_page.ensures.cause c.from_residual.ensures.1
 
 pub returns-clause-does : goal.returns-clause-does
 returns-clause-does g c = λ told may.

@@ -1,5 +1,7 @@
 use Rattle.std.specs.Prelude.{◌≡◌, ◌<◌, ◌≤◌, IfSome, IsTrue}
 use Rattle.disk_records.specs.Addresses.{pages_of}
+use Rattle.disk_records.specs.Causes.{Unfailed}
+use Rattle.disk_records.specs.Frames.{WritesUsable}
 use Rattle.disk_records.specs.Tapes.{DiskAlone, pack}
 use Rattle.laws_mend.specs.Parts.{Lasting}
 use Rattle.scav_table.specs.Passes.{Stands}
@@ -14,6 +16,8 @@ invariant-loop-row g l =
     let now = g.D.Tape.tape l.disk in
     record {
       alone : DiskAlone old now;
+      unfailed : Unfailed old now;
+      frame : WritesUsable g.D.Tape.told old now;
       stands : Stands g.D.Tape.told (pack now) l.table l.pass;
       last : l.pass.last ≡ last_row l.pending;
       place : IfSome l.pending (λ x. (1 ≤ x.row.at) × (x.row.at < pages_of old.form));

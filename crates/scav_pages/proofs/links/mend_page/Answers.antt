@@ -1,4 +1,6 @@
+use Rattle.std.proofs.Common.{refl}
 use Rattle.disk_records.specs.Tapes.{pack}
+use Rattle.disk_records.proofs.Framing.{usable_twice}
 use Rattle.disk_records.proofs.Growing.{alone_here, alone_twice}
 use Rattle.scav_pages.proofs.Causing.{cause_of_part}
 use Rattle.scav_pages.proofs.Doing.{does_ok, does_stop_part, going_does, going_here}
@@ -6,16 +8,22 @@ use Rattle.scav_pages.proofs.Naming.{linked_named, linked_only, may_name}
 use Rattle.scav_pages.proofs.links.mend_page.Goals as goal
 
 pub returns-in_err-link_page-clause-cause : goal.returns-in_err-link_page-clause-cause
-returns-in_err-link_page-clause-cause g c = cause_of_part c.in_err-link_page.field-0.0 c.from_residual.result (alone_here _) c.in_err-link_page.ensures.alone c.in_err-link_page.ensures.cause c.from_residual.ensures.1
+returns-in_err-link_page-clause-cause g c = cause_of_part c.in_err-link_page.field-0.0 c.from_residual.result (alone_here _) refl c.in_err-link_page.ensures.alone c.in_err-link_page.ensures.cause c.from_residual.ensures.1
 
 pub returns-in_err-name_page-clause-cause : goal.returns-in_err-name_page-clause-cause
-returns-in_err-name_page-clause-cause g c = cause_of_part c.in_err-name_page.field-0.0 c.from_residual-in_err-name_page.result c.in_ok-link_page.ensures.alone c.in_err-name_page.ensures.alone c.in_err-name_page.ensures.cause c.from_residual-in_err-name_page.ensures.1
+returns-in_err-name_page-clause-cause g c = cause_of_part c.in_err-name_page.field-0.0 c.from_residual-in_err-name_page.result c.in_ok-link_page.ensures.alone c.in_ok-link_page.ensures.cause c.in_err-name_page.ensures.alone c.in_err-name_page.ensures.cause c.from_residual-in_err-name_page.ensures.1
 
 pub returns-in_err-name_page-clause-alone : goal.returns-in_err-name_page-clause-alone
 returns-in_err-name_page-clause-alone g c = alone_twice c.in_ok-link_page.ensures.alone c.in_err-name_page.ensures.alone
 
+pub returns-in_err-name_page-clause-frame : goal.returns-in_err-name_page-clause-frame
+returns-in_err-name_page-clause-frame g c = usable_twice c.in_ok-link_page.ensures.alone c.in_err-name_page.ensures.alone c.in_ok-link_page.ensures.frame c.in_err-name_page.ensures.frame
+
 pub returns-in_ok-name_page-clause-alone : goal.returns-in_ok-name_page-clause-alone
 returns-in_ok-name_page-clause-alone g c = alone_twice c.in_ok-link_page.ensures.alone c.in_ok-name_page.ensures.alone
+
+pub returns-in_ok-name_page-clause-frame : goal.returns-in_ok-name_page-clause-frame
+returns-in_ok-name_page-clause-frame g c = usable_twice c.in_ok-link_page.ensures.alone c.in_ok-name_page.ensures.alone c.in_ok-link_page.ensures.frame c.in_ok-name_page.ensures.frame
 
 pub returns-in_err-name_page-clause-does : goal.returns-in_err-name_page-clause-does
 returns-in_err-name_page-clause-does g c = λ told may.

@@ -1,10 +1,11 @@
-use Rattle.std.proofs.Common.{◌≡◌, ℕ, Bool, true, false, List, Option, Some, None, sym, ap, subst, ◌∙◌, arith}
+use Rattle.std.proofs.Common.{◌≡◌, ℕ, Bool, true, false, List, Option, Some, None, sym, ap, subst, ◌∙◌, arith, refl}
 use Rattle.std.specs.Prelude.{not}
 use Rattle.std.specs.Option.{is_some}
 use Rattle.disk_records.specs.Commands.{value_writes}
 use Rattle.disk_records.specs.Packs.{after}
 use Rattle.disk_records.specs.Tapes.{pack}
 use Rattle.disk_records.proofs.Growing.{alone_here}
+use Rattle.label_check.proofs.Framing.{usable_value}
 use Rattle.leader_page.specs.declared.leader.Leader.{Leader}
 use Rattle.leader_page.specs.Laws.{SaysTitled}
 use Rattle.leader_page.specs.Pages.{IsDecoded}
@@ -35,7 +36,7 @@ returns-in_err-write_value-clause-does g c = λ told may.
     (subst (λ v. Mends (pack a) (value_writes row.at v)) (sym c.put_name.ensures.value) mends) (omega arith) (c.in_err-write_value.ensures.guarded told) c.from_residual.ensures.1
 
 pub returns-in_err-write_value-clause-cause : goal.returns-in_err-write_value-clause-cause
-returns-in_err-write_value-clause-cause g c = cause_of_guarded c.in_err-write_value.field-0.0 c.from_residual.result (alone_here _) c.in_err-write_value.ensures.alone c.in_err-write_value.ensures.cause c.from_residual.ensures.1
+returns-in_err-write_value-clause-cause g c = cause_of_guarded c.in_err-write_value.field-0.0 c.from_residual.result (alone_here _) refl c.in_err-write_value.ensures.alone c.in_err-write_value.ensures.cause c.from_residual.ensures.1
 
 pub returns-in_ok-write_value-clause-does : goal.returns-in_ok-write_value-clause-does
 returns-in_ok-write_value-clause-does g c = λ told may.
@@ -58,3 +59,9 @@ pub returns-else-is_none-clause-does : goal.returns-else-is_none-clause-does
 returns-else-is_none-clause-does g c = λ told may.
     let a = g.D.Tape.tape c.args.disk.now in
     does_ok tt (going_here a) (named_already (pack a) c.args.row.now c.args.value.now may (read c.args.value.now c.decode.result c.is_none.result c.decode.ensures c.is_none.ensures c.if-is_none.false))
+
+pub returns-in_err-write_value-clause-frame : goal.returns-in_err-write_value-clause-frame
+returns-in_err-write_value-clause-frame g c = usable_value c.in_err-write_value.ensures.guarded
+
+pub returns-in_ok-write_value-clause-frame : goal.returns-in_ok-write_value-clause-frame
+returns-in_ok-write_value-clause-frame g c = usable_value c.in_ok-write_value.ensures.guarded

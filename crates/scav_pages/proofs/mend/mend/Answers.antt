@@ -1,3 +1,5 @@
+use Rattle.std.proofs.Common.{refl, ◌∙◌}
+use Rattle.disk_records.proofs.Framing.{usable_twice}
 use Rattle.disk_records.proofs.Growing.{alone_here, alone_twice}
 use Rattle.scav_pages.proofs.Causing.{cause_of_part}
 use Rattle.scav_pages.proofs.Doing.{does_ok, does_stop_part, going_does, going_here}
@@ -12,7 +14,7 @@ returns-in_err-unused-clause-does g c = λ told ready.
     does_stop_part c.in_err-unused.field-0.0 c.from_residual.result (going_here a) c.in_err-unused.ensures.alone.grown (c.in_err-unused.ensures.does told) c.from_residual.ensures.1
 
 pub returns-in_err-unused-clause-cause : goal.returns-in_err-unused-clause-cause
-returns-in_err-unused-clause-cause g c = cause_of_part c.in_err-unused.field-0.0 c.from_residual.result (alone_here _) c.in_err-unused.ensures.alone c.in_err-unused.ensures.cause c.from_residual.ensures.1
+returns-in_err-unused-clause-cause g c = cause_of_part c.in_err-unused.field-0.0 c.from_residual.result (alone_here _) refl c.in_err-unused.ensures.alone c.in_err-unused.ensures.cause c.from_residual.ensures.1
 
 pub returns-in_err-mend_root-clause-does : goal.returns-in_err-mend_root-clause-does
 returns-in_err-mend_root-clause-does g c = λ told ready.
@@ -25,10 +27,13 @@ returns-in_err-mend_root-clause-does g c = λ told ready.
     does_stop_part c.in_err-mend_root.field-0.0 c.from_residual-in_err-mend_root.result x c.in_err-mend_root.ensures.alone.grown (c.in_err-mend_root.ensures.does told (may_move a b c.in_ok-unused.unused x ready first.leaves)) c.from_residual-in_err-mend_root.ensures.1
 
 pub returns-in_err-mend_root-clause-cause : goal.returns-in_err-mend_root-clause-cause
-returns-in_err-mend_root-clause-cause g c = cause_of_part c.in_err-mend_root.field-0.0 c.from_residual-in_err-mend_root.result c.in_ok-unused.ensures.alone c.in_err-mend_root.ensures.alone c.in_err-mend_root.ensures.cause c.from_residual-in_err-mend_root.ensures.1
+returns-in_err-mend_root-clause-cause g c = cause_of_part c.in_err-mend_root.field-0.0 c.from_residual-in_err-mend_root.result c.in_ok-unused.ensures.alone c.in_ok-unused.ensures.cause c.in_err-mend_root.ensures.alone c.in_err-mend_root.ensures.cause c.from_residual-in_err-mend_root.ensures.1
 
 pub returns-in_err-mend_root-clause-alone : goal.returns-in_err-mend_root-clause-alone
 returns-in_err-mend_root-clause-alone g c = alone_twice c.in_ok-unused.ensures.alone c.in_err-mend_root.ensures.alone
+
+pub returns-in_err-mend_root-clause-frame : goal.returns-in_err-mend_root-clause-frame
+returns-in_err-mend_root-clause-frame g c = usable_twice c.in_ok-unused.ensures.alone c.in_err-mend_root.ensures.alone c.in_ok-unused.ensures.frame c.in_err-mend_root.ensures.frame
 
 pub returns-in_err-mend_ends-clause-does : goal.returns-in_err-mend_ends-clause-does
 returns-in_err-mend_ends-clause-does g c = λ told ready.
@@ -45,10 +50,13 @@ returns-in_err-mend_ends-clause-does g c = λ told ready.
     does_stop_part c.in_err-mend_ends.field-0.0 c.from_residual-in_err-mend_ends.result y c.in_err-mend_ends.ensures.alone.grown (c.in_err-mend_ends.ensures.does told (ready_midway a d y ready) second.leaves) c.from_residual-in_err-mend_ends.ensures.1
 
 pub returns-in_err-mend_ends-clause-cause : goal.returns-in_err-mend_ends-clause-cause
-returns-in_err-mend_ends-clause-cause g c = cause_of_part c.in_err-mend_ends.field-0.0 c.from_residual-in_err-mend_ends.result (alone_twice c.in_ok-unused.ensures.alone c.in_ok-mend_root.ensures.alone) c.in_err-mend_ends.ensures.alone c.in_err-mend_ends.ensures.cause c.from_residual-in_err-mend_ends.ensures.1
+returns-in_err-mend_ends-clause-cause g c = cause_of_part c.in_err-mend_ends.field-0.0 c.from_residual-in_err-mend_ends.result (alone_twice c.in_ok-unused.ensures.alone c.in_ok-mend_root.ensures.alone) (c.in_ok-mend_root.ensures.cause ∙ c.in_ok-unused.ensures.cause) c.in_err-mend_ends.ensures.alone c.in_err-mend_ends.ensures.cause c.from_residual-in_err-mend_ends.ensures.1
 
 pub returns-in_err-mend_ends-clause-alone : goal.returns-in_err-mend_ends-clause-alone
 returns-in_err-mend_ends-clause-alone g c = alone_twice (alone_twice c.in_ok-unused.ensures.alone c.in_ok-mend_root.ensures.alone) c.in_err-mend_ends.ensures.alone
+
+pub returns-in_err-mend_ends-clause-frame : goal.returns-in_err-mend_ends-clause-frame
+returns-in_err-mend_ends-clause-frame g c = usable_twice (alone_twice c.in_ok-unused.ensures.alone c.in_ok-mend_root.ensures.alone) c.in_err-mend_ends.ensures.alone (usable_twice c.in_ok-unused.ensures.alone c.in_ok-mend_root.ensures.alone c.in_ok-unused.ensures.frame c.in_ok-mend_root.ensures.frame) c.in_err-mend_ends.ensures.frame
 
 pub returns-in_err-mend_links-clause-does : goal.returns-in_err-mend_links-clause-does
 returns-in_err-mend_links-clause-does g c = λ told ready.
@@ -67,10 +75,13 @@ returns-in_err-mend_links-clause-does g c = λ told ready.
     does_stop_part c.in_err-mend_links.field-0.0 c.from_residual-in_err-mend_links.result (going_does y three.alone.grown third) c.in_err-mend_links.ensures.alone.grown (c.in_err-mend_links.ensures.does told third.leaves) c.from_residual-in_err-mend_links.ensures.1
 
 pub returns-in_err-mend_links-clause-cause : goal.returns-in_err-mend_links-clause-cause
-returns-in_err-mend_links-clause-cause g c = cause_of_part c.in_err-mend_links.field-0.0 c.from_residual-in_err-mend_links.result (alone_twice (alone_twice c.in_ok-unused.ensures.alone c.in_ok-mend_root.ensures.alone) c.in_ok-mend_ends.ensures.alone) c.in_err-mend_links.ensures.alone c.in_err-mend_links.ensures.cause c.from_residual-in_err-mend_links.ensures.1
+returns-in_err-mend_links-clause-cause g c = cause_of_part c.in_err-mend_links.field-0.0 c.from_residual-in_err-mend_links.result (alone_twice (alone_twice c.in_ok-unused.ensures.alone c.in_ok-mend_root.ensures.alone) c.in_ok-mend_ends.ensures.alone) (c.in_ok-mend_ends.ensures.cause ∙ c.in_ok-mend_root.ensures.cause ∙ c.in_ok-unused.ensures.cause) c.in_err-mend_links.ensures.alone c.in_err-mend_links.ensures.cause c.from_residual-in_err-mend_links.ensures.1
 
 pub returns-in_err-mend_links-clause-alone : goal.returns-in_err-mend_links-clause-alone
 returns-in_err-mend_links-clause-alone g c = alone_twice (alone_twice (alone_twice c.in_ok-unused.ensures.alone c.in_ok-mend_root.ensures.alone) c.in_ok-mend_ends.ensures.alone) c.in_err-mend_links.ensures.alone
+
+pub returns-in_err-mend_links-clause-frame : goal.returns-in_err-mend_links-clause-frame
+returns-in_err-mend_links-clause-frame g c = usable_twice (alone_twice (alone_twice c.in_ok-unused.ensures.alone c.in_ok-mend_root.ensures.alone) c.in_ok-mend_ends.ensures.alone) c.in_err-mend_links.ensures.alone (usable_twice (alone_twice c.in_ok-unused.ensures.alone c.in_ok-mend_root.ensures.alone) c.in_ok-mend_ends.ensures.alone (usable_twice c.in_ok-unused.ensures.alone c.in_ok-mend_root.ensures.alone c.in_ok-unused.ensures.frame c.in_ok-mend_root.ensures.frame) c.in_ok-mend_ends.ensures.frame) c.in_err-mend_links.ensures.frame
 
 -- ---- all are done
 pub returns-clause-does : goal.returns-clause-does
@@ -94,3 +105,6 @@ returns-clause-does g c = λ told ready.
 
 pub returns-clause-alone : goal.returns-clause-alone
 returns-clause-alone g c = alone_twice (alone_twice (alone_twice c.in_ok-unused.ensures.alone c.in_ok-mend_root.ensures.alone) c.in_ok-mend_ends.ensures.alone) c.in_ok-mend_links.ensures.alone
+
+pub returns-clause-frame : goal.returns-clause-frame
+returns-clause-frame g c = usable_twice (alone_twice (alone_twice c.in_ok-unused.ensures.alone c.in_ok-mend_root.ensures.alone) c.in_ok-mend_ends.ensures.alone) c.in_ok-mend_links.ensures.alone (usable_twice (alone_twice c.in_ok-unused.ensures.alone c.in_ok-mend_root.ensures.alone) c.in_ok-mend_ends.ensures.alone (usable_twice c.in_ok-unused.ensures.alone c.in_ok-mend_root.ensures.alone c.in_ok-unused.ensures.frame c.in_ok-mend_root.ensures.frame) c.in_ok-mend_ends.ensures.frame) c.in_ok-mend_links.ensures.frame

@@ -10,9 +10,8 @@ returns-in-Ok-clause-mends g c = λ told ready.
     let is : c.mend.result ≡ Ok tt = search rules in
     mends_ok a b c.mend.ensures.alone.grown c.mend.new.freed (subst (DoesMend a b c.mend.ensures.alone.grown c.mend.new.freed) is (c.mend.ensures.does told ready))
 
--- no fault is told here
 pub returns-in-Ok-clause-cause : goal.returns-in-Ok-clause-cause
-returns-in-Ok-clause-cause g c = tt
+returns-in-Ok-clause-cause g c = c.in-Ok.ensures.cause
 
 pub returns-in-Err-DiskFault-clause-mends : goal.returns-in-Err-DiskFault-clause-mends
 returns-in-Err-DiskFault-clause-mends g c = λ told ready.

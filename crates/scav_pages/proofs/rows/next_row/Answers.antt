@@ -1,4 +1,4 @@
-use Rattle.std.proofs.Common.{None, Some, ap, ◌∙◌, arith}
+use Rattle.std.proofs.Common.{None, Some, ap, ◌∙◌, arith, refl}
 use Rattle.disk_records.specs.Addresses.{pages_of}
 use Rattle.disk_records.specs.Tapes.{pack}
 use Rattle.disk_records.proofs.Growing.{alone_here}
@@ -24,4 +24,4 @@ returns-then-row-lt1-clause-found g c = λ k _.
     ]
 
 pub returns-in_err-row-clause-cause : goal.returns-in_err-row-clause-cause
-returns-in_err-row-clause-cause g c = cause_of_swept c.in_err-row.field-0.0 c.from_residual.result (alone_here _) c.in_err-row.ensures.looks.alone c.in_err-row.ensures.cause c.from_residual.ensures.1
+returns-in_err-row-clause-cause g c = cause_of_swept c.in_err-row.field-0.0 c.from_residual.result (alone_here _) refl c.in_err-row.ensures.looks.alone c.in_err-row.ensures.cause c.from_residual.ensures.1

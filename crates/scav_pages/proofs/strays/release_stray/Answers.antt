@@ -2,9 +2,10 @@ use Rattle.std.proofs.Common.{◌≡◌, None, Some, sym, ap, ◌∙◌, refl}
 use Rattle.std.specs.Option.{is_some}
 use Rattle.disk_records.specs.Commands.{ones}
 use Rattle.disk_records.specs.Tapes.{pack}
+use Rattle.disk_records.proofs.Framing.{usable_looks}
 use Rattle.disk_records.proofs.Growing.{alone_here, alone_twice}
 use Rattle.scav_pages.proofs.Causing.{cause_of_looked}
-use Rattle.scav_pages.proofs.Straying.{bad_no_stray, free_no_stray, half_released, header_matches, is_stray, none_released, nothing_released, one_released, page_no_stray}
+use Rattle.scav_pages.proofs.Straying.{bad_no_stray, free_no_stray, half_released, header_matches, is_stray, none_released, nothing_released, one_released, page_no_stray, stray_usable}
 use Rattle.scav_pages.proofs.strays.release_stray.Goals as goal
 use Rattle.scav_pages.proofs.strays.release_stray.Goals.{then-not-right-via-then-not-right, then-not-right-via-else-not-right+then-is_some, then-not-right-via-else-not-right+else-is_some+then-is_free_label}
 
@@ -66,4 +67,42 @@ returns-in-Err-Memory-clause-does g c = λ told once.
     none_released c.args.at read.looks c.run.ensures.alone told is ran.some short.less
 
 pub returns-in_err-right-clause-cause : goal.returns-in_err-right-clause-cause
-returns-in_err-right-clause-cause g c = cause_of_looked c.in_err-right.field-0.0 c.from_residual.result (alone_here _) c.in_err-right.ensures.looks.alone c.in_err-right.ensures.cause c.from_residual.ensures.1
+returns-in_err-right-clause-cause g c = cause_of_looked c.in_err-right.field-0.0 c.from_residual.result (alone_here _) refl c.in_err-right.ensures.looks.alone c.in_err-right.ensures.cause c.from_residual.ensures.1
+
+pub returns-in_err-right-clause-frame : goal.returns-in_err-right-clause-frame
+returns-in_err-right-clause-frame g c = usable_looks c.in_err-right.ensures.looks
+
+pub returns-then-not-right-clause-frame : goal.returns-then-not-right-clause-frame
+returns-then-not-right-clause-frame g c = usable_looks c.in_ok-right.ensures.looks
+
+pub returns-in-Ok-clause-frame : goal.returns-in-Ok-clause-frame
+returns-in-Ok-clause-frame g c = λ told.
+    let p = pack (g.D.Tape.tape c.args.disk.now) in
+    let read = c.in_ok-right.ensures in
+    let is = is_stray p c.args.at c.look.new.buf (read.holds told) c.requires.first (sym read.right ∙ c.if-not-right.false) (sym (c.is_some.ensures ∙ ap is_some c.page_of.ensures) ∙ c.if-is_some.false) (sym c.is_free_label.ensures ∙ c.if-is_free_label.false) in
+    let ran = c.in-Ok.ensures.ran told in
+    stray_usable c.args.at read.looks c.run.ensures.alone told is ran.some
+
+pub returns-in-Err-Mismatch-clause-frame : goal.returns-in-Err-Mismatch-clause-frame
+returns-in-Err-Mismatch-clause-frame g c = λ told.
+    let p = pack (g.D.Tape.tape c.args.disk.now) in
+    let read = c.in_ok-right.ensures in
+    let is = is_stray p c.args.at c.look.new.buf (read.holds told) c.requires.first (sym read.right ∙ c.if-not-right.false) (sym (c.is_some.ensures ∙ ap is_some c.page_of.ensures) ∙ c.if-is_some.false) (sym c.is_free_label.ensures ∙ c.if-is_free_label.false) in
+    let ran = rw c.in-Err-Mismatch.field-0-is at (c.in-Err-Mismatch.ensures.ran told) in
+    stray_usable c.args.at read.looks c.run.ensures.alone told is ran.some
+
+pub returns-in-Err-Failed-clause-frame : goal.returns-in-Err-Failed-clause-frame
+returns-in-Err-Failed-clause-frame g c = λ told.
+    let p = pack (g.D.Tape.tape c.args.disk.now) in
+    let read = c.in_ok-right.ensures in
+    let is = is_stray p c.args.at c.look.new.buf (read.holds told) c.requires.first (sym read.right ∙ c.if-not-right.false) (sym (c.is_some.ensures ∙ ap is_some c.page_of.ensures) ∙ c.if-is_some.false) (sym c.is_free_label.ensures ∙ c.if-is_free_label.false) in
+    let ran = rw c.in-Err-Failed.field-0-is at (c.in-Err-Failed.ensures.ran told) in
+    stray_usable c.args.at read.looks c.run.ensures.alone told is ran.some
+
+pub returns-in-Err-Memory-clause-frame : goal.returns-in-Err-Memory-clause-frame
+returns-in-Err-Memory-clause-frame g c = λ told.
+    let p = pack (g.D.Tape.tape c.args.disk.now) in
+    let read = c.in_ok-right.ensures in
+    let is = is_stray p c.args.at c.look.new.buf (read.holds told) c.requires.first (sym read.right ∙ c.if-not-right.false) (sym (c.is_some.ensures ∙ ap is_some c.page_of.ensures) ∙ c.if-is_some.false) (sym c.is_free_label.ensures ∙ c.if-is_free_label.false) in
+    let ran = rw c.in-Err-Memory.field-0-is at (c.in-Err-Memory.ensures.ran told) in
+    stray_usable c.args.at read.looks c.run.ensures.alone told is ran.some

@@ -1,6 +1,7 @@
-use Rattle.std.proofs.Common.{◌≡◌, ◌+◌, ◌<◌, ◌≤◌, length, arith, rules, ap, subst, sym, ◌∙◌}
+use Rattle.std.proofs.Common.{◌≡◌, ◌+◌, ◌<◌, ◌≤◌, length, arith, rules, ap, subst, sym, refl, ◌∙◌}
 use Rattle.disk_records.specs.Addresses.{pages_of}
 use Rattle.disk_records.specs.Tapes.{pack}
+use Rattle.disk_records.proofs.Framing.{usable_here, usable_twice}
 use Rattle.disk_records.proofs.Growing.{alone_here, alone_twice, length-pack}
 use Rattle.pack_model.specs.states.InUse.{one_if}
 use Rattle.scav_pages.proofs.Causing.{cause_of_part}
@@ -16,14 +17,19 @@ loop-at-init g c =
       end = search rules;
       few = omega arith;
       alone = alone_here first;
+      unfailed = refl;
+      frame = usable_here first;
       released = λ told once. strays_none first once;
     }
 
 pub returns-in_err-release_stray-clause-cause : goal.returns-in_err-release_stray-clause-cause
-returns-in_err-release_stray-clause-cause g c = cause_of_part c.in_err-release_stray.field-0.0 c.from_residual.result c.loop-at.invariant.alone c.in_err-release_stray.ensures.alone c.in_err-release_stray.ensures.cause c.from_residual.ensures.1
+returns-in_err-release_stray-clause-cause g c = cause_of_part c.in_err-release_stray.field-0.0 c.from_residual.result c.loop-at.invariant.alone c.loop-at.invariant.unfailed c.in_err-release_stray.ensures.alone c.in_err-release_stray.ensures.cause c.from_residual.ensures.1
 
 pub returns-in_err-release_stray-clause-alone : goal.returns-in_err-release_stray-clause-alone
 returns-in_err-release_stray-clause-alone g c = alone_twice c.loop-at.invariant.alone c.in_err-release_stray.ensures.alone
+
+pub returns-in_err-release_stray-clause-frame : goal.returns-in_err-release_stray-clause-frame
+returns-in_err-release_stray-clause-frame g c = usable_twice c.loop-at.invariant.alone c.in_err-release_stray.ensures.alone c.loop-at.invariant.frame c.in_err-release_stray.ensures.frame
 
 pub returns-in_err-release_stray-clause-does : goal.returns-in_err-release_stray-clause-does
 returns-in_err-release_stray-clause-does g c = λ told once.
@@ -47,6 +53,8 @@ loop-at-preserved g c =
       end = inv.end;
       few = count.1;
       alone = alone_twice inv.alone step.alone;
+      unfailed = step.cause ∙ inv.unfailed;
+      frame = usable_twice inv.alone step.alone inv.frame step.frame;
       released = λ told once. (let so_far = inv.released told once in subst (StraysTo first last (c.loop-at.at + 1)) (sym count.0) (strays_more c.loop-at.at freed step.alone so_far done (step.does told so_far.once)));
     }
 

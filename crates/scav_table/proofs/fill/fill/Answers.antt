@@ -1,4 +1,4 @@
-use Rattle.std.proofs.Common.{◌≡◌, ◌+◌, ◌≤◌, length, replicate, Some, None, arith, rules, sym, ap, ◌∙◌}
+use Rattle.std.proofs.Common.{◌≡◌, ◌+◌, ◌≤◌, length, replicate, Some, None, arith, refl, rules, sym, ap, ◌∙◌}
 use Rattle.disk_records.proofs.Looking.{looks_none, looks_twice}
 use Rattle.scav_table.proofs.Causing.{cause_of_looked, want_of_looked}
 use Rattle.scav_table.proofs.Filling.{seen_none, seen_more, seen_rises, seen_all, seen_as}
@@ -14,6 +14,7 @@ loop-at-init g c =
     record {
       end = search rules;
       looks = looks_none _ first;
+      unfailed = refl;
       seen = seen_none (length c.fill.new.self) c.args.above c.fill.new.self (g.met.D.Disk.sized c.args.disk.now) (e.after (λ y h. h) ∙ ap (λ n. replicate n no_row) (sym e.len));
     }
 
@@ -39,6 +40,7 @@ loop-at-preserved g c =
     record {
       end = end;
       looks = looks_twice _ inv.looks read.looks (omega arith);
+      unfailed = read.cause ∙ inv.unfailed;
       seen = elim c.if-branch.branch [
         | then-branch+in-Some w ↦ seen_as c.if-branch.auto.window (w.bad-is ∙ none_more) (w.window-is ∙ w.offer.ensures)
             (step (Some w.in-Some.row) 0 inv.looks first (omega arith) (omega (arith, end)) sized inv.seen w.in-Some.ensures.low
@@ -57,7 +59,7 @@ returns-clause-filled g c = let end = c.loop-at.invariant.end in seen_all (omega
 
 pub returns-in_err-look-clause-cause : goal.returns-in_err-look-clause-cause
 returns-in_err-look-clause-cause g c =
-    cause_of_looked (g.D.Tape.tape c.args.disk.now) (g.D.Tape.tape c.loop-at.disk) (g.D.Tape.tape c.look.new.disk) c.in_err-look.field-0.0 c.from_residual.result c.loop-at.invariant.looks.alone.grown c.in_err-look.ensures.cause c.from_residual.ensures.1
+    cause_of_looked (g.D.Tape.tape c.args.disk.now) (g.D.Tape.tape c.loop-at.disk) (g.D.Tape.tape c.look.new.disk) c.in_err-look.field-0.0 c.from_residual.result c.loop-at.invariant.unfailed c.in_err-look.ensures.cause c.from_residual.ensures.1
 
 pub returns-in_err-look-clause-want : goal.returns-in_err-look-clause-want
 returns-in_err-look-clause-want g c = want_of_looked c.in_err-look.field-0.0 c.from_residual.result c.in_err-look.ensures.want c.from_residual.ensures.1

@@ -1,5 +1,6 @@
 use Rattle.std.proofs.Common.{◌≡◌, ◌-◌, length}
 use Rattle.disk_records.specs.Addresses.{pages_of}
+use Rattle.disk_records.specs.Causes.{Unfailed}
 use Rattle.disk_records.specs.Tapes.{Looks}
 use Rattle.scav_table.proofs.Filling.{SeenTo}
 use Rattle.scav_table.proofs.fill.fill.Given as goal
@@ -11,5 +12,6 @@ invariant-loop-at g l =
     record {
       end : l.end ≡ pages_of old.form;
       looks : Looks g.D.Tape.told (l.at - 1) old now;
+      unfailed : Unfailed old now;
       seen : SeenTo g.D.Tape.told old (length l.window) l.above l.at l.bad l.window;
     }

@@ -1,8 +1,5 @@
 use Rattle.scav_table.proofs.table.fill_items.Goals as goal
 
-pub returns-in-Ok-clause-cause : goal.returns-in-Ok-clause-cause
-returns-in-Ok-clause-cause g c = tt
-
 pub returns-in-Err-clause-cause : goal.returns-in-Err-clause-cause
 returns-in-Err-clause-cause g c = c.in-Err.ensures.cause
 

@@ -1,4 +1,4 @@
-use Rattle.std.proofs.Common.{◌≡◌, ◌<◌, IsTrue, Some, None, IfSome, ap, sym, subst, ◌∙◌, rules}
+use Rattle.std.proofs.Common.{◌≡◌, ◌<◌, IsTrue, Some, None, IfSome, ap, sym, subst, ◌∙◌, rules, refl}
 use Rattle.std.specs.Option.{option_or}
 use Rattle.disk_records.specs.Addresses.{pages_of}
 use Rattle.disk_records.specs.Packs.{Pack, carried, sector_at}
@@ -22,6 +22,7 @@ returns-in_err-pass-clause-alone g c = alone_twice c.in_ok-system.ensures.looks.
 pub loop-row-init : goal.loop-row-init
 loop-row-init g c = record {
   alone = alone_twice c.in_ok-system.ensures.looks.alone c.in_ok-pass.ensures.looks.alone;
+  unfailed = c.in_ok-pass.ensures.cause ∙ c.in_ok-system.ensures.cause;
   silent = λ k. silent_twice c.in_ok-system.ensures.looks.alone.grown c.in_ok-pass.ensures.looks.alone.grown (c.in_ok-system.ensures.looks.silent k) (c.in_ok-pass.ensures.looks.silent k);
   stands = c.in_ok-pass.ensures.stands;
   read = λ k. subst (λ l. IsReadTo (pack (g.D.Tape.tape c.args.disk.now)) l c.new-dir.result) (sym c.in_ok-pass.ensures.first) (c.new-dir.ensures.start (pack (g.D.Tape.tape c.args.disk.now)) None (g.met.D.Disk.formed c.args.disk.now k) (λ r e. cc));
@@ -56,6 +57,7 @@ loop-row-preserved g c =
     let sector = λ (k : IsTrue g.D.Tape.told). ap (λ (q : Pack). sector_at q c.in-Some.row.at) (looks_pack c.in_ok-row.ensures.looks k ∙ here k) in
     record {
       alone = alone_twice before c.in_ok-meet_page.ensures.looks.alone;
+      unfailed = c.in_ok-meet_page.ensures.cause ∙ c.in_ok-row.ensures.cause ∙ c.loop-row.invariant.unfailed;
       silent = λ k. silent_twice before.grown c.in_ok-meet_page.ensures.looks.alone.grown (silent k) (c.in_ok-meet_page.ensures.looks.silent k);
       stands = stands_same (pack (g.D.Tape.tape c.meet_page.new.disk)) c.in_ok-row.ensures.stands (λ k. looks_pack c.in_ok-meet_page.ensures.looks k);
       read = λ k. subst (λ l. IsReadTo (pack (g.D.Tape.tape c.args.disk.now)) l c.meet_page.new.dir) (sym last_is) (c.in_ok-meet_page.ensures.read k (pack (g.D.Tape.tape c.args.disk.now)) c.loop-row.pass.last (ready.read k) (first k) (sector k));
@@ -89,16 +91,16 @@ pub returns-clause-alone : goal.returns-clause-alone
 returns-clause-alone g c = alone_twice c.loop-row.invariant.alone c.in_ok-row.ensures.looks.alone
 
 pub returns-in_err-system-clause-cause : goal.returns-in_err-system-clause-cause
-returns-in_err-system-clause-cause g c = cause_of_part c.in_err-system.field-0.0 c.from_residual.result (alone_here _) c.in_err-system.ensures.looks.alone c.in_err-system.ensures.cause c.from_residual.ensures.1
+returns-in_err-system-clause-cause g c = cause_of_part c.in_err-system.field-0.0 c.from_residual.result (alone_here _) refl c.in_err-system.ensures.looks.alone c.in_err-system.ensures.cause c.from_residual.ensures.1
 
 pub returns-in_err-pass-clause-cause : goal.returns-in_err-pass-clause-cause
-returns-in_err-pass-clause-cause g c = cause_of_swept c.in_err-pass.field-0.0 c.from_residual-in_err-pass.result c.in_ok-system.ensures.looks.alone c.in_err-pass.ensures.looks.alone c.in_err-pass.ensures.cause c.from_residual-in_err-pass.ensures.1
+returns-in_err-pass-clause-cause g c = cause_of_swept c.in_err-pass.field-0.0 c.from_residual-in_err-pass.result c.in_ok-system.ensures.looks.alone c.in_ok-system.ensures.cause c.in_err-pass.ensures.looks.alone c.in_err-pass.ensures.cause c.from_residual-in_err-pass.ensures.1
 
 pub returns-in_err-row-clause-cause : goal.returns-in_err-row-clause-cause
-returns-in_err-row-clause-cause g c = cause_of_part c.in_err-row.field-0.0 c.from_residual-in_err-row.result c.loop-row.invariant.alone c.in_err-row.ensures.looks.alone c.in_err-row.ensures.cause c.from_residual-in_err-row.ensures.1
+returns-in_err-row-clause-cause g c = cause_of_part c.in_err-row.field-0.0 c.from_residual-in_err-row.result c.loop-row.invariant.alone c.loop-row.invariant.unfailed c.in_err-row.ensures.looks.alone c.in_err-row.ensures.cause c.from_residual-in_err-row.ensures.1
 
 pub returns-in_err-meet_page-clause-cause : goal.returns-in_err-meet_page-clause-cause
-returns-in_err-meet_page-clause-cause g c = cause_of_part c.in_err-meet_page.field-0.0 c.from_residual-in_err-meet_page.result (alone_twice c.loop-row.invariant.alone c.in_ok-row.ensures.looks.alone) c.in_err-meet_page.ensures.looks.alone c.in_err-meet_page.ensures.cause c.from_residual-in_err-meet_page.ensures.1
+returns-in_err-meet_page-clause-cause g c = cause_of_part c.in_err-meet_page.field-0.0 c.from_residual-in_err-meet_page.result (alone_twice c.loop-row.invariant.alone c.in_ok-row.ensures.looks.alone) (c.in_ok-row.ensures.cause ∙ c.loop-row.invariant.unfailed) c.in_err-meet_page.ensures.looks.alone c.in_err-meet_page.ensures.cause c.from_residual-in_err-meet_page.ensures.1
 
 pub returns-in_err-system-clause-alone : goal.returns-in_err-system-clause-alone
 returns-in_err-system-clause-alone g c = c.in_err-system.ensures.looks.alone
@@ -119,7 +121,7 @@ pub returns-clause-found : goal.returns-clause-found
 returns-clause-found g c = λ told astray. cc
 
 pub returns-clause-cause : goal.returns-clause-cause
-returns-clause-cause g c = tt
+returns-clause-cause g c = c.in_ok-row.ensures.cause ∙ c.loop-row.invariant.unfailed
 
 pub returns-clause-silent : goal.returns-clause-silent
 returns-clause-silent g c = λ told. silent_twice c.loop-row.invariant.alone.grown c.in_ok-row.ensures.looks.alone.grown (c.loop-row.invariant.silent told) (c.in_ok-row.ensures.looks.silent told)

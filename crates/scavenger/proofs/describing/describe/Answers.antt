@@ -1,4 +1,4 @@
-use Rattle.std.proofs.Common.{◌≡◌, ◌+◌, ◌-◌, Err, Ok, false, true, length, ap, sym, subst, ◌∙◌, arith, rules}
+use Rattle.std.proofs.Common.{◌≡◌, ◌+◌, ◌-◌, Err, Ok, false, true, length, ap, sym, subst, ◌∙◌, arith, rules, refl}
 use Rattle.std.specs.List.{list_any}
 use Rattle.std.specs.Prelude.{◌==◌}
 use Rattle.disk_descriptor.specs.Fields.{AreSectors}
@@ -9,9 +9,11 @@ use Rattle.pack_model.specs.sessions.Descriptor.{data_pages}
 use Rattle.disk_records.specs.Packs.{Pack}
 use Rattle.disk_records.specs.Causes.{IsCause}
 use Rattle.disk_records.proofs.Growing.{alone_here, alone_twice}
+use Rattle.disk_records.proofs.Framing.{usable_looks, usable_twice}
 use Rattle.scav_pages.specs.declared.errors.Stop.TheVariants.{Astray}
 use Rattle.scav_pages.specs.Stops.{cause_of_stop}
 use Rattle.scav_pages.proofs.Causing.{cause_of_part, cause_sooner}
+use Rattle.disk_descriptor.proofs.Framing.{usable_own}
 use Rattle.scavenger.specs.Answers.{stop_of_write}
 use Rattle.scavenger.specs.Describing.{IsDescriptorIn}
 use Rattle.scavenger.proofs.OwnPages.{all_sectors, closes_so, known_sectors, mine, mine_is, never_held}
@@ -40,8 +42,14 @@ returns-then-contains-clause-found g c = λ told pages in_it.
 pub returns-in-Ok-clause-alone : goal.returns-in-Ok-clause-alone
 returns-in-Ok-clause-alone g c = alone_twice c.in_ok-map.ensures.looks.alone c.in-Ok.ensures.alone
 
+pub returns-in-Ok-clause-frame : goal.returns-in-Ok-clause-frame
+returns-in-Ok-clause-frame g c = usable_twice c.in_ok-map.ensures.looks.alone c.in-Ok.ensures.alone (usable_looks c.in_ok-map.ensures.looks) (usable_own c.in-Ok.ensures.guarded)
+
 pub returns-clause-alone : goal.returns-clause-alone
 returns-clause-alone g c = alone_twice c.in_ok-map.ensures.looks.alone c.in-Err.ensures.alone
+
+pub returns-clause-frame : goal.returns-clause-frame
+returns-clause-frame g c = usable_twice c.in_ok-map.ensures.looks.alone c.in-Err.ensures.alone (usable_looks c.in_ok-map.ensures.looks) (usable_own c.in-Err.ensures.guarded)
 
 pub returns-in-Ok-clause-closes : goal.returns-in-Ok-clause-closes
 returns-in-Ok-clause-closes g c = λ told pages in_it.
@@ -77,26 +85,32 @@ returns-clause-found g c = λ told pages in_it astray.
     never_held (g.D.Tape.tape c.map_sectors.new.disk) (g.D.Tape.tape c.write_pages.new.disk) (pack (g.D.Tape.tape c.map_sectors.new.disk)) (mine (c.from-end.result + 1 - 1) c.in_ok-map.map.places) _ c.in-Err.error here c.in-Err.ensures.cause (c.in-Err.ensures.guarded told).held is
 
 pub returns-in_err-map-clause-cause : goal.returns-in_err-map-clause-cause
-returns-in_err-map-clause-cause g c = cause_of_part c.in_err-map.field-0.0 c.from_residual.result (alone_here _) c.in_err-map.ensures.looks.alone c.in_err-map.ensures.cause c.from_residual.ensures.1
+returns-in_err-map-clause-cause g c = cause_of_part c.in_err-map.field-0.0 c.from_residual.result (alone_here _) refl c.in_err-map.ensures.looks.alone c.in_err-map.ensures.cause c.from_residual.ensures.1
 
 pub returns-clause-cause : goal.returns-clause-cause
 returns-clause-cause g c =
     let here = g.D.Tape.tape c.map_sectors.new.disk in
     let now = g.D.Tape.tape c.write_pages.new.disk in
-    cause_sooner {T = Unit {0}} (g.D.Tape.tape c.args.disk.now) here now (Err c.stop_of_write.result) c.in_ok-map.ensures.looks.alone.grown
+    cause_sooner {T = Unit {0}} (g.D.Tape.tape c.args.disk.now) here now (Err c.stop_of_write.result) c.in_ok-map.ensures.cause
     (subst (λ s. IsCause here now (cause_of_stop s)) (sym c.stop_of_write.ensures) (cause_of_write here now c.in-Err.error c.in-Err.ensures.cause))
 
 pub returns-in_err-map-clause-alone : goal.returns-in_err-map-clause-alone
 returns-in_err-map-clause-alone g c = c.in_err-map.ensures.looks.alone
 
+pub returns-in_err-map-clause-frame : goal.returns-in_err-map-clause-frame
+returns-in_err-map-clause-frame g c = usable_looks c.in_err-map.ensures.looks
+
 pub returns-then-contains-clause-cause : goal.returns-then-contains-clause-cause
-returns-then-contains-clause-cause g c = tt
+returns-then-contains-clause-cause g c = c.in_ok-map.ensures.cause
 
 pub returns-then-contains-clause-alone : goal.returns-then-contains-clause-alone
 returns-then-contains-clause-alone g c = c.in_ok-map.ensures.looks.alone
+
+pub returns-then-contains-clause-frame : goal.returns-then-contains-clause-frame
+returns-then-contains-clause-frame g c = usable_looks c.in_ok-map.ensures.looks
 
 pub returns-in-Ok-clause-found : goal.returns-in-Ok-clause-found
 returns-in-Ok-clause-found g c = λ told pages in_it astray. cc
 
 pub returns-in-Ok-clause-cause : goal.returns-in-Ok-clause-cause
-returns-in-Ok-clause-cause g c = tt
+returns-in-Ok-clause-cause g c = c.in-Ok.ensures.cause ∙ c.in_ok-map.ensures.cause

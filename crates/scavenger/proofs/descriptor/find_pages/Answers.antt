@@ -11,4 +11,4 @@ pub returns-clause-within : goal.returns-clause-within
 returns-clause-within g c = found_within (record { places = _ }) c.sweep.new.visitor (record { size = refl; each = λ n few. some_pages (g.D.Tape.tape c.args.disk.now).form _ (no_places n few) }) c.in_ok-sweep.ensures.swept
 
 pub returns-in_err-sweep-clause-cause : goal.returns-in_err-sweep-clause-cause
-returns-in_err-sweep-clause-cause g c = cause_of_looked c.in_err-sweep.field-0.0 c.from_residual.result (alone_here _) c.in_err-sweep.ensures.looks.alone c.in_err-sweep.ensures.cause c.from_residual.ensures.1
+returns-in_err-sweep-clause-cause g c = cause_of_looked c.in_err-sweep.field-0.0 c.from_residual.result (alone_here _) refl c.in_err-sweep.ensures.looks.alone c.in_err-sweep.ensures.cause c.from_residual.ensures.1

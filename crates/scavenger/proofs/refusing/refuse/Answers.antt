@@ -1,4 +1,4 @@
-use Rattle.std.proofs.Common.{◌≡◌, true, false, not, Some, get_or, ap, sym, subst, ◌∙◌, arith, rules}
+use Rattle.std.proofs.Common.{◌≡◌, true, false, not, Some, get_or, ap, sym, subst, ◌∙◌, arith, rules, refl}
 use Rattle.disk_records.specs.Addresses.{is_right_header, pages_of}
 use Rattle.disk_records.specs.declared.records.Sector.{Sector}
 use Rattle.disk_records.specs.Packs.{Pack}
@@ -99,13 +99,13 @@ returns-clause-refuses g c = λ told counted bad.
     first_none (pack (g.D.Tape.tape c.args.disk.now)) good stands c.saturating_add-needed.result c.saturating_sub-free.result needs free c.if-needed-free.false
 
 pub returns-in_err-look-clause-cause : goal.returns-in_err-look-clause-cause
-returns-in_err-look-clause-cause g c = cause_of_looked c.in_err-look.field-0.0 c.from_residual.result (alone_here _) c.in_err-look.ensures.looks.alone c.in_err-look.ensures.cause c.from_residual.ensures.1
+returns-in_err-look-clause-cause g c = cause_of_looked c.in_err-look.field-0.0 c.from_residual.result (alone_here _) refl c.in_err-look.ensures.looks.alone c.in_err-look.ensures.cause c.from_residual.ensures.1
 
 pub returns-in_err-names-clause-cause : goal.returns-in_err-names-clause-cause
-returns-in_err-names-clause-cause g c = cause_of_part c.in_err-names.field-0.0 c.from_residual-in_err-names.result c.in_ok-look.ensures.looks.alone c.in_err-names.ensures.alone c.in_err-names.ensures.cause c.from_residual-in_err-names.ensures.1
+returns-in_err-names-clause-cause g c = cause_of_part c.in_err-names.field-0.0 c.from_residual-in_err-names.result c.in_ok-look.ensures.looks.alone c.in_ok-look.ensures.cause c.in_err-names.ensures.alone c.in_err-names.ensures.cause c.from_residual-in_err-names.ensures.1
 
 pub returns-in_err-more-clause-cause : goal.returns-in_err-more-clause-cause
-returns-in_err-more-clause-cause g c = cause_of_part Memory c.from_residual-in_err-more.result (alone_twice c.in_ok-look.ensures.looks.alone c.in_ok-names.ensures.alone) (alone_here _) tt c.from_residual-in_err-more.ensures.1
+returns-in_err-more-clause-cause g c = cause_of_part Memory c.from_residual-in_err-more.result (alone_twice c.in_ok-look.ensures.looks.alone c.in_ok-names.ensures.alone) (c.in_ok-names.ensures.cause ∙ c.in_ok-look.ensures.cause) (alone_here _) refl c.from_residual-in_err-more.ensures.1
 
 pub returns-in_err-look-clause-alone : goal.returns-in_err-look-clause-alone
 returns-in_err-look-clause-alone g c = c.in_err-look.ensures.looks.alone
@@ -120,7 +120,7 @@ pub returns-then-not-branch-clause-found : goal.returns-then-not-branch-clause-f
 returns-then-not-branch-clause-found g c = λ told astray. cc
 
 pub returns-then-not-branch-clause-cause : goal.returns-then-not-branch-clause-cause
-returns-then-not-branch-clause-cause g c = tt
+returns-then-not-branch-clause-cause g c = c.in_ok-look.ensures.cause
 
 pub returns-then-not-branch-clause-alone : goal.returns-then-not-branch-clause-alone
 returns-then-not-branch-clause-alone g c = c.in_ok-look.ensures.looks.alone
@@ -135,7 +135,7 @@ pub returns-then-counts-clause-found : goal.returns-then-counts-clause-found
 returns-then-counts-clause-found g c = λ told astray. cc
 
 pub returns-then-counts-clause-cause : goal.returns-then-counts-clause-cause
-returns-then-counts-clause-cause g c = tt
+returns-then-counts-clause-cause g c = c.in_ok-look.ensures.cause
 
 pub returns-then-counts-clause-alone : goal.returns-then-counts-clause-alone
 returns-then-counts-clause-alone g c = c.in_ok-look.ensures.looks.alone
@@ -156,7 +156,7 @@ pub returns-then-needed-free-clause-found : goal.returns-then-needed-free-clause
 returns-then-needed-free-clause-found g c = λ told astray. cc
 
 pub returns-then-needed-free-clause-cause : goal.returns-then-needed-free-clause-cause
-returns-then-needed-free-clause-cause g c = tt
+returns-then-needed-free-clause-cause g c = c.in_ok-names.ensures.cause ∙ c.in_ok-look.ensures.cause
 
 pub returns-then-needed-free-clause-silent : goal.returns-then-needed-free-clause-silent
 returns-then-needed-free-clause-silent g c = λ told. silent_twice c.in_ok-look.ensures.looks.alone.grown c.in_ok-names.ensures.alone.grown (c.in_ok-look.ensures.looks.silent told) (c.in_ok-names.ensures.silent told)
@@ -168,7 +168,7 @@ pub returns-clause-found : goal.returns-clause-found
 returns-clause-found g c = λ told astray. cc
 
 pub returns-clause-cause : goal.returns-clause-cause
-returns-clause-cause g c = tt
+returns-clause-cause g c = c.in_ok-names.ensures.cause ∙ c.in_ok-look.ensures.cause
 
 pub returns-clause-silent : goal.returns-clause-silent
 returns-clause-silent g c = λ told. silent_twice c.in_ok-look.ensures.looks.alone.grown c.in_ok-names.ensures.alone.grown (c.in_ok-look.ensures.looks.silent told) (c.in_ok-names.ensures.silent told)

@@ -1,8 +1,9 @@
-use Rattle.std.proofs.Common.{◌≡◌, None, IfSome, ap, sym, subst, ◌∙◌}
+use Rattle.std.proofs.Common.{◌≡◌, None, IfSome, ap, sym, subst, ◌∙◌, refl}
 use Rattle.disk_records.specs.Packs.{Pack}
 use Rattle.disk_records.specs.Tapes.{pack}
 use Rattle.disk_records.proofs.Looking.{looks_pack}
 use Rattle.disk_records.proofs.Growing.{alone_here, alone_twice, pack-silent, silent_twice}
+use Rattle.disk_records.proofs.Framing.{usable_looks, usable_twice, writes_silent}
 use Rattle.pack_model.specs.reading.Sights.{sights}
 use Rattle.pack_model.specs.scavenger.Scavenging.{first_refusal}
 use Rattle.pack_model.specs.states.InUse.{bad_sectors}
@@ -16,21 +17,50 @@ use Rattle.scavenger.proofs.scavenging.scavenge.Goals as goal
 pub returns-in_err-counts-clause-alone : goal.returns-in_err-counts-clause-alone
 returns-in_err-counts-clause-alone g c = alone_twice c.in_ok-table.ensures.looks.alone c.in_err-counts.ensures.alone
 
+pub returns-in_err-counts-clause-frame : goal.returns-in_err-counts-clause-frame
+returns-in_err-counts-clause-frame g c = usable_twice c.in_ok-table.ensures.looks.alone c.in_err-counts.ensures.alone (usable_looks c.in_ok-table.ensures.looks) (λ told. writes_silent _ _ (c.in_err-counts.ensures.silent told))
+
 pub returns-in_err-refusal-clause-alone : goal.returns-in_err-refusal-clause-alone
 returns-in_err-refusal-clause-alone g c = alone_twice (alone_twice c.in_ok-table.ensures.looks.alone c.in_ok-counts.ensures.alone) c.in_err-refusal.ensures.alone
+
+pub returns-in_err-refusal-clause-frame : goal.returns-in_err-refusal-clause-frame
+returns-in_err-refusal-clause-frame g c =
+    let one = c.in_ok-table.ensures.looks in
+    let two = c.in_ok-counts.ensures in
+    let quiet = usable_twice one.alone two.alone (usable_looks one) (λ told. writes_silent _ _ (two.silent told)) in
+    usable_twice (alone_twice one.alone two.alone) c.in_err-refusal.ensures.alone quiet (λ told. writes_silent _ _ (c.in_err-refusal.ensures.silent told))
 
 pub returns-in-Some-clause-alone : goal.returns-in-Some-clause-alone
 returns-in-Some-clause-alone g c = alone_twice (alone_twice c.in_ok-table.ensures.looks.alone c.in_ok-counts.ensures.alone) c.in_ok-refusal.ensures.alone
 
+pub returns-in-Some-clause-frame : goal.returns-in-Some-clause-frame
+returns-in-Some-clause-frame g c =
+    let one = c.in_ok-table.ensures.looks in
+    let two = c.in_ok-counts.ensures in
+    let quiet = usable_twice one.alone two.alone (usable_looks one) (λ told. writes_silent _ _ (two.silent told)) in
+    let three = c.in_ok-refusal.ensures in
+    let before = alone_twice one.alone two.alone in
+    usable_twice before three.alone quiet (λ told. writes_silent _ _ (three.silent told))
+
 pub returns-clause-cause : goal.returns-clause-cause
 returns-clause-cause g c =
-    cause_sooner (g.D.Tape.tape c.args.disk.now) (g.D.Tape.tape c.refuse.new.disk) (g.D.Tape.tape c.mend.new.disk) c.mend.result (alone_twice (alone_twice c.in_ok-table.ensures.looks.alone c.in_ok-counts.ensures.alone) c.in_ok-refusal.ensures.alone).grown c.mend.ensures.cause
+    cause_sooner (g.D.Tape.tape c.args.disk.now) (g.D.Tape.tape c.refuse.new.disk) (g.D.Tape.tape c.mend.new.disk) c.mend.result (c.in_ok-refusal.ensures.cause ∙ c.in_ok-counts.ensures.cause ∙ c.in_ok-table.ensures.cause) c.mend.ensures.cause
 
 pub returns-clause-alone : goal.returns-clause-alone
 returns-clause-alone g c = alone_twice (alone_twice (alone_twice c.in_ok-table.ensures.looks.alone c.in_ok-counts.ensures.alone) c.in_ok-refusal.ensures.alone) c.mend.ensures.alone
 
+pub returns-clause-frame : goal.returns-clause-frame
+returns-clause-frame g c =
+    let one = c.in_ok-table.ensures.looks in
+    let two = c.in_ok-counts.ensures in
+    let quiet = usable_twice one.alone two.alone (usable_looks one) (λ told. writes_silent _ _ (two.silent told)) in
+    let three = c.in_ok-refusal.ensures in
+    let before = alone_twice one.alone two.alone in
+    let all = usable_twice before three.alone quiet (λ told. writes_silent _ _ (three.silent told)) in
+    usable_twice (alone_twice before three.alone) c.mend.ensures.alone all c.mend.ensures.frame
+
 pub returns-in-Some-clause-cause : goal.returns-in-Some-clause-cause
-returns-in-Some-clause-cause g c = refusal_cause (g.D.Tape.tape c.args.disk.now) (g.D.Tape.tape c.refuse.new.disk) c.in-Some.refusal (subst (λ o. IfSome o IsRefusal) c.in-Some.is c.in_ok-refusal.ensures.refusal)
+returns-in-Some-clause-cause g c = refusal_cause (g.D.Tape.tape c.args.disk.now) (g.D.Tape.tape c.refuse.new.disk) c.in-Some.refusal (c.in_ok-refusal.ensures.cause ∙ c.in_ok-counts.ensures.cause ∙ c.in_ok-table.ensures.cause) (subst (λ o. IfSome o IsRefusal) c.in-Some.is c.in_ok-refusal.ensures.refusal)
 
 pub returns-in-Some-clause-scavenges : goal.returns-in-Some-clause-scavenges
 returns-in-Some-clause-scavenges g c = λ told.
@@ -61,13 +91,13 @@ returns-clause-scavenges g c = λ told.
 
 -- ---- it ends before its first record write
 pub returns-in_err-table-clause-cause : goal.returns-in_err-table-clause-cause
-returns-in_err-table-clause-cause g c = cause_of_unswept c.in_err-table.field-0.0 c.from_residual.result (alone_here _) c.in_err-table.ensures.looks.alone c.in_err-table.ensures.cause c.from_residual.ensures.1
+returns-in_err-table-clause-cause g c = cause_of_unswept c.in_err-table.field-0.0 c.from_residual.result (alone_here _) refl c.in_err-table.ensures.looks.alone c.in_err-table.ensures.cause c.from_residual.ensures.1
 
 pub returns-in_err-table-clause-scavenges : goal.returns-in_err-table-clause-scavenges
 returns-in_err-table-clause-scavenges g c = λ told. stops_none (error_of_sweep c.in_err-table.field-0.0) c.from_residual.result c.from_residual.ensures.1 (c.in_err-table.ensures.looks.silent told) (of_sweep c.in_err-table.field-0.0)
 
 pub returns-in_err-counts-clause-cause : goal.returns-in_err-counts-clause-cause
-returns-in_err-counts-clause-cause g c = cause_of_stopped c.in_err-counts.field-0.0 c.from_residual-in_err-counts.result c.in_ok-table.ensures.looks.alone c.in_err-counts.ensures.alone c.in_err-counts.ensures.cause c.from_residual-in_err-counts.ensures.1
+returns-in_err-counts-clause-cause g c = cause_of_stopped c.in_err-counts.field-0.0 c.from_residual-in_err-counts.result c.in_ok-table.ensures.looks.alone c.in_ok-table.ensures.cause c.in_err-counts.ensures.alone c.in_err-counts.ensures.cause c.from_residual-in_err-counts.ensures.1
 
 pub returns-in_err-counts-clause-scavenges : goal.returns-in_err-counts-clause-scavenges
 returns-in_err-counts-clause-scavenges g c = λ told.
@@ -75,7 +105,7 @@ returns-in_err-counts-clause-scavenges g c = λ told.
     stops_none (error_of_stop c.in_err-counts.field-0.0) c.from_residual-in_err-counts.result c.from_residual-in_err-counts.ensures.1 quiet (of_stop c.in_err-counts.field-0.0)
 
 pub returns-in_err-refusal-clause-cause : goal.returns-in_err-refusal-clause-cause
-returns-in_err-refusal-clause-cause g c = cause_of_stopped c.in_err-refusal.field-0.0 c.from_residual-in_err-refusal.result (alone_twice c.in_ok-table.ensures.looks.alone c.in_ok-counts.ensures.alone) c.in_err-refusal.ensures.alone c.in_err-refusal.ensures.cause c.from_residual-in_err-refusal.ensures.1
+returns-in_err-refusal-clause-cause g c = cause_of_stopped c.in_err-refusal.field-0.0 c.from_residual-in_err-refusal.result (alone_twice c.in_ok-table.ensures.looks.alone c.in_ok-counts.ensures.alone) (c.in_ok-counts.ensures.cause ∙ c.in_ok-table.ensures.cause) c.in_err-refusal.ensures.alone c.in_err-refusal.ensures.cause c.from_residual-in_err-refusal.ensures.1
 
 pub returns-in_err-refusal-clause-scavenges : goal.returns-in_err-refusal-clause-scavenges
 returns-in_err-refusal-clause-scavenges g c = λ told.
@@ -86,3 +116,6 @@ returns-in_err-refusal-clause-scavenges g c = λ told.
 
 pub returns-in_err-table-clause-alone : goal.returns-in_err-table-clause-alone
 returns-in_err-table-clause-alone g c = c.in_err-table.ensures.looks.alone
+
+pub returns-in_err-table-clause-frame : goal.returns-in_err-table-clause-frame
+returns-in_err-table-clause-frame g c = usable_looks c.in_err-table.ensures.looks

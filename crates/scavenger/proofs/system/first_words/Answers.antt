@@ -1,4 +1,4 @@
-use Rattle.std.proofs.Common.{◌≡◌, ◌≢◌, Some, sym, ◌∙◌, rules}
+use Rattle.std.proofs.Common.{◌≡◌, ◌≢◌, Some, sym, ◌∙◌, rules, refl}
 use Rattle.alto_words.specs.Fid.{disk_descriptor}
 use Rattle.disk_records.specs.Packs.{carried}
 use Rattle.disk_records.specs.Tapes.{pack}
@@ -18,7 +18,7 @@ returns-in_err-read_page-clause-found g c = λ told is.
     search rules
 
 pub returns-in_err-read_page-clause-cause : goal.returns-in_err-read_page-clause-cause
-returns-in_err-read_page-clause-cause g c = cause_of_guarded c.in_err-read_page.field-0.0 c.from_residual.result (alone_here _) c.in_err-read_page.ensures.looks.alone c.in_err-read_page.ensures.cause c.from_residual.ensures.1
+returns-in_err-read_page-clause-cause g c = cause_of_guarded c.in_err-read_page.field-0.0 c.from_residual.result (alone_here _) refl c.in_err-read_page.ensures.looks.alone c.in_err-read_page.ensures.cause c.from_residual.ensures.1
 
 pub returns-then-at-eq0-clause-want : goal.returns-then-at-eq0-clause-want
 returns-then-at-eq0-clause-want g c = λ told memory. cc
@@ -27,7 +27,7 @@ pub returns-then-at-eq0-clause-found : goal.returns-then-at-eq0-clause-found
 returns-then-at-eq0-clause-found g c = λ told is astray. cc
 
 pub returns-then-at-eq0-clause-cause : goal.returns-then-at-eq0-clause-cause
-returns-then-at-eq0-clause-cause g c = tt
+returns-then-at-eq0-clause-cause g c = refl
 
 pub returns-then-at-eq0-clause-looks : goal.returns-then-at-eq0-clause-looks
 returns-then-at-eq0-clause-looks g c = looks_none 1 (g.D.Tape.tape c.args.disk.now)
@@ -42,7 +42,7 @@ pub returns-clause-found : goal.returns-clause-found
 returns-clause-found g c = λ told is astray. cc
 
 pub returns-clause-cause : goal.returns-clause-cause
-returns-clause-cause g c = tt
+returns-clause-cause g c = c.in_ok-read_page.ensures.cause
 
 pub returns-clause-looks : goal.returns-clause-looks
 returns-clause-looks g c = c.in_ok-read_page.ensures.looks

@@ -1,4 +1,4 @@
-use Rattle.std.proofs.Common.{arith}
+use Rattle.std.proofs.Common.{arith, refl, ◌∙◌}
 use Rattle.disk_records.specs.Addresses.{pages_of}
 use Rattle.disk_records.specs.Tapes.{Looks}
 use Rattle.disk_records.proofs.Looking.{looks_pages, looks_twice}
@@ -24,13 +24,13 @@ returns-clause-looks g c =
     looks_twice _ both c.in_ok-words.ensures.looks (omega arith)
 
 pub returns-in_err-first-clause-cause : goal.returns-in_err-first-clause-cause
-returns-in_err-first-clause-cause g c = cause_of_part c.in_err-first.field-0.0 c.from_residual.result (alone_here _) c.in_err-first.ensures.looks.alone c.in_err-first.ensures.cause c.from_residual.ensures.1
+returns-in_err-first-clause-cause g c = cause_of_part c.in_err-first.field-0.0 c.from_residual.result (alone_here _) refl c.in_err-first.ensures.looks.alone c.in_err-first.ensures.cause c.from_residual.ensures.1
 
 pub returns-in_err-places-clause-cause : goal.returns-in_err-places-clause-cause
-returns-in_err-places-clause-cause g c = cause_of_part c.in_err-places.field-0.0 c.from_residual-in_err-places.result c.in_ok-first.ensures.looks.alone c.in_err-places.ensures.looks.alone c.in_err-places.ensures.cause c.from_residual-in_err-places.ensures.1
+returns-in_err-places-clause-cause g c = cause_of_part c.in_err-places.field-0.0 c.from_residual-in_err-places.result c.in_ok-first.ensures.looks.alone c.in_ok-first.ensures.cause c.in_err-places.ensures.looks.alone c.in_err-places.ensures.cause c.from_residual-in_err-places.ensures.1
 
 pub returns-in_err-words-clause-cause : goal.returns-in_err-words-clause-cause
-returns-in_err-words-clause-cause g c = cause_of_part c.in_err-words.field-0.0 c.from_residual-in_err-words.result (alone_twice c.in_ok-first.ensures.looks.alone c.in_ok-places.ensures.looks.alone) c.in_err-words.ensures.looks.alone c.in_err-words.ensures.cause c.from_residual-in_err-words.ensures.1
+returns-in_err-words-clause-cause g c = cause_of_part c.in_err-words.field-0.0 c.from_residual-in_err-words.result (alone_twice c.in_ok-first.ensures.looks.alone c.in_ok-places.ensures.looks.alone) (c.in_ok-places.ensures.cause ∙ c.in_ok-first.ensures.cause) c.in_err-words.ensures.looks.alone c.in_err-words.ensures.cause c.from_residual-in_err-words.ensures.1
 
 pub returns-clause-want : goal.returns-clause-want
 returns-clause-want g c = λ told memory. cc
@@ -39,4 +39,4 @@ pub returns-clause-found : goal.returns-clause-found
 returns-clause-found g c = λ told astray. cc
 
 pub returns-clause-cause : goal.returns-clause-cause
-returns-clause-cause g c = tt
+returns-clause-cause g c = c.in_ok-words.ensures.cause ∙ c.in_ok-places.ensures.cause ∙ c.in_ok-first.ensures.cause

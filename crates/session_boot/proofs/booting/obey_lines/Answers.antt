@@ -1,4 +1,4 @@
-use Rattle.std.proofs.Common.{ap, refl, sym, subst, ◌∙◌, arith, Some}
+use Rattle.std.proofs.Common.{ap, inr, refl, sym, subst, ◌∙◌, arith, Some}
 use Rattle.disk_records.proofs.Growing.{grown_here, grown_twice}
 use Rattle.exec_session.specs.Meant.{kept}
 use Rattle.session_boot.specs.Boots.{LastsBy}
@@ -7,12 +7,17 @@ use Rattle.session_boot.proofs.Ends.{end_lasts}
 use Rattle.session_boot.proofs.Goings.{AtEnd, at_end_spent}
 use Rattle.session_boot.proofs.Looping.{next_lasts, next_more, next_none, next_over, starts}
 use Rattle.session_boot.proofs.SoFar.{Modelled}
+use Rattle.session_boot.proofs.Unfailing.{none_here, none_twice}
+use Rattle.session_boot.proofs.Unread.{Unread, ended_unread, fewer_are_others, unread_broke, unread_here, unread_none, unread_taken, unread_writes}
+use Rattle.session_boot.specs.declared.line.Next.TheVariants.{More, Over}
 use Rattle.session_boot.proofs.booting.obey_lines.Goals as goal
 use Rattle.session_boot.proofs.booting.obey_lines.Goals.{else-lines-test, then-lines-test+in_ok-answer_next+in-None}
 
 pub lines-init : goal.lines-init
 lines-init g c = record {
   grown = grown_here (g.M.Tape.tape c.args.machine.now);
+  unfailed = none_here (g.M.Tape.tape c.args.machine.now);
+  unread = λ told. unread_here (g.M.Tape.tape c.args.machine.now) (kept c.args.session.now);
   room = omega arith;
   formed = c.requires.formed;
   limit = refl;
@@ -39,6 +44,8 @@ returns-in-Some-Over-clause-lasts g c = λ told moment first given limit opened 
 pub lines-preserved : goal.lines-preserved
 lines-preserved g c = record {
   grown = grown_twice c.lines.invariant.grown c.answer_next.ensures.grown;
+  unfailed = none_twice c.lines.invariant.unfailed c.in_ok-answer_next.ensures.unfailed;
+  unread = λ told. inr (unread_taken (g.M.Tape.tape c.args.machine.now) (g.M.Tape.tape c.lines.machine) (g.M.Tape.tape c.answer_next.new.machine) (kept c.args.session.now) (kept c.lines.session) (kept c.answer_next.new.session) c.lines.left c.answer_next.new.left (c.lines.invariant.unread told) More c.in_ok-answer_next.field-0 (c.in-Some-More.is ∙ ap (λ n. Some n) c.in-Some-More.field-0-is) (c.in_ok-answer_next.ensures.next told));
   room = omega (arith, c.lines.invariant.room, c.answer_next.auto.buffer);
   formed = c.answer_next.ensures.formed;
   limit = c.answer_next.ensures.limit ∙ c.lines.invariant.limit;
@@ -47,6 +54,25 @@ lines-preserved g c = record {
       next_more (kept c.answer_next.new.session) c.answer_next.new.left (c.lines.invariant.so_far told moment first given limit opened sound is_begun) modelled limit sound opened.counts
       c.answer_next.ensures.grown c.in_ok-answer_next.field-0 (c.in-Some-More.is ∙ ap (λ n. Some n) c.in-Some-More.field-0-is) (c.in_ok-answer_next.ensures.next told);
 }
+
+-- ---- where no key was taken nothing was written
+pub returns-in_err-answer_next-clause-unread : goal.returns-in_err-answer_next-clause-unread
+returns-in_err-answer_next-clause-unread g c = λ told clean same.
+    unread_writes (g.M.Tape.tape c.args.machine.now) (g.M.Tape.tape c.answer_next.new.machine) (kept c.args.session.now) (kept c.answer_next.new.session)
+    (unread_broke (g.M.Tape.tape c.args.machine.now) (g.M.Tape.tape c.lines.machine) (g.M.Tape.tape c.answer_next.new.machine) (kept c.args.session.now) (kept c.lines.session) (kept c.answer_next.new.session) c.lines.left c.answer_next.new.left (c.lines.invariant.unread told) c.in_err-answer_next.field-0.0 (c.in_err-answer_next.ensures.next told)) same
+
+pub returns-in-Some-Over-clause-unread : goal.returns-in-Some-Over-clause-unread
+returns-in-Some-Over-clause-unread g c = λ told clean same.
+    fewer_are_others (g.M.Tape.tape c.args.machine.now) (g.M.Tape.tape c.answer_next.new.machine) (unread_taken (g.M.Tape.tape c.args.machine.now) (g.M.Tape.tape c.lines.machine) (g.M.Tape.tape c.answer_next.new.machine) (kept c.args.session.now) (kept c.lines.session) (kept c.answer_next.new.session) c.lines.left c.answer_next.new.left (c.lines.invariant.unread told) Over c.in_ok-answer_next.field-0 (c.in-Some-Over.is ∙ ap (λ n. Some n) c.in-Some-Over.field-0-is) (c.in_ok-answer_next.ensures.next told)) same
+
+pub returns-clause-unread : goal.returns-clause-unread
+returns-clause-unread g c = λ told clean same.
+    let there : Unread (g.M.Tape.tape c.args.machine.now) (g.M.Tape.tape c.lines-test.machine) (kept c.args.session.now) (kept c.lines-test.session) = elim c.lines-test.branch [
+      | else-lines-test w ↦ rw (w.machine-is, w.session-is) (c.lines.invariant.unread told)
+      | then-lines-test+in_ok-answer_next+in-None w ↦
+          rw (w.machine-is, w.session-is) (unread_none (g.M.Tape.tape c.args.machine.now) (g.M.Tape.tape c.lines.machine) (g.M.Tape.tape w.answer_next.new.machine) (kept c.args.session.now) (kept c.lines.session) (kept w.answer_next.new.session) c.lines.left w.answer_next.new.left (c.lines.invariant.unread told) w.in_ok-answer_next.field-0 w.in-None.is (w.in_ok-answer_next.ensures.next told))
+    ] in
+    ended_unread (g.M.Tape.tape c.args.machine.now) (g.M.Tape.tape c.lines-test.machine) (g.M.Tape.tape c.end_session.new.machine) (kept c.args.session.now) (kept c.lines-test.session) there clean c.end_session.ensures.keys (c.end_session.ensures.quiet told) same
 
 pub returns-clause-lasts : goal.returns-clause-lasts
 returns-clause-lasts g c = λ told moment first given limit opened sound is_begun.

@@ -6,7 +6,9 @@ use Rattle.executive.specs.pack_model.specs.states.Sound.{Sound}
 use Rattle.session_model.specs.Keeping.{Formed}
 use Rattle.session_model.specs.Opening.{Begun}
 use Rattle.session_boot.specs.Boots.{OpenedBy}
+use Rattle.session_boot.specs.Faults.{NoFault}
 use Rattle.session_boot.proofs.SoFar.{SoFar}
+use Rattle.session_boot.proofs.Unread.{Unread}
 use Rattle.session_boot.proofs.booting.obey_lines.Given as goal
 
 abbrev pub invariant-lines : goal.invariant-lines
@@ -15,6 +17,8 @@ invariant-lines g l =
     let now = g.M.Tape.tape l.machine in
     record {
       grown : Grown old now;
+      unfailed : NoFault old now;
+      unread : IsTrue g.M.Tape.told → Unread old now (kept l.fn.session) (kept l.session);
       room : 4097 < length l.buffer;
       formed : Formed now.form (kept l.session);
       limit : (kept l.session).tally.limit ≡ (kept l.fn.session).tally.limit;

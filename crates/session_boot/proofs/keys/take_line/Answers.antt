@@ -1,7 +1,8 @@
 use Rattle.std.proofs.Common.{◌≡◌, ◌≤◌, ◌-◌, ◌+◌, ℕ, inl, inr, length, take, drop, slice_range, ap, arith, sym, ◌∙◌, length-take, length-drop}
 use Rattle.std.proofs.lemmas.List.{length-take-le}
 use Rattle.disk_records.proofs.Growing.{keys_twice}
-use Rattle.session_boot.proofs.Typing.{taking_ended, taking_last, taking_last_of, taking_over, taking_piece, took_end, took_last, took_some}
+use Rattle.session_boot.proofs.Typing.{taking_ended, taking_last, taking_last_of, taking_over, taking_piece, took_end, took_last, took_some, went_on}
+use Rattle.session_boot.proofs.Unfailing.{none_twice}
 use Rattle.session_boot.proofs.keys.take_line.Goals as goal
 use Rattle.session_boot.proofs.keys.take_line.Goals.{else-loop-left-test, then-loop-left-test+in_ok-next_piece+in-End}
 
@@ -18,6 +19,8 @@ loop-left-preserved g c =
     let long : length (take kept buffer) ≡ kept = length-take-le kept buffer (omega (arith, c.loop-left.invariant.short, c.loop-left.auto.buffer)) in
     record {
       alone = keys_twice c.loop-left.invariant.alone c.next_piece.ensures.alone;
+      unfailed = none_twice c.loop-left.invariant.unfailed c.in_ok-next_piece.ensures.unfailed;
+      answered = λ waits. c.next_piece.ensures.displayed (c.loop-left.invariant.answered (went_on c.in-Part.is c.in_ok-next_piece.ensures.goes_on waits));
       left = omega (arith, c.loop-left.invariant.left);
       short = omega arith;
       line = λ told.

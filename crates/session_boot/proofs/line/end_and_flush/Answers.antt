@@ -1,5 +1,5 @@
 use Rattle.disk_records.proofs.Growing.{alone_twice}
-use Rattle.std.proofs.Common.{refl}
+use Rattle.std.proofs.Common.{refl, ◌∙◌}
 use Rattle.exec_session.specs.Ends.{cause_of_reply}
 use Rattle.exec_words.specs.declared.reply.Reply.TheVariants as reply
 use Rattle.session_boot.proofs.Flushed.{flushed_cause}
@@ -7,6 +7,9 @@ use Rattle.session_boot.proofs.line.end_and_flush.Goals as goal
 
 pub returns-clause-turns : goal.returns-clause-turns
 returns-clause-turns g c told = let same = c.after_flush.ensures.told told in rw (same.0, same.1) (c.end-reply.ensures.turns told)
+
+pub returns-clause-quiet : goal.returns-clause-quiet
+returns-clause-quiet g c told clean = (c.after_flush.ensures.told told).1 ∙ c.end-reply.ensures.quiet clean
 
 pub returns-clause-cause : goal.returns-clause-cause
 returns-clause-cause g c = flushed_cause cause_of_reply reply.DiskFault refl _ _ _ c.end-reply.result c.after_flush.result c.end-reply.ensures.alone.grown c.after_flush.ensures.alone.grown c.after_flush.ensures.cause c.end-reply.ensures.cause

@@ -1,9 +1,25 @@
-use Rattle.std.proofs.Common.{sym}
+use Rattle.std.proofs.Common.{ap, subst, sym, ◌≡◌}
+use Rattle.disk_records.proofs.Growing.{nothing_added}
+use Rattle.disk_records.specs.Events.{writes_in}
+use Rattle.disk_records.specs.Tapes.{Taped, added}
+use Rattle.exec_words.specs.Texts.{reply_text}
 use Rattle.exec_session.specs.Meant.{kept}
 use Rattle.session_model.specs.Turning.{ended}
 use Rattle.session_boot.specs.Turns.{ends_all}
 use Rattle.session_boot.proofs.Answers.{answer_stopped, end_never_asks, end_said, err_is}
+use Rattle.session_boot.proofs.Unread.{first_shown}
 use Rattle.session_boot.proofs.line.end_session.Goals as goal
+
+pub returns-in_err-next_after-clause-quiet : goal.returns-in_err-next_after-clause-quiet
+returns-in_err-next_after-clause-quiet g c = λ told clean.
+    let x = g.M.Tape.tape c.args.machine.now in
+    subst (λ (t : Taped). writes_in (added x t) ≡ 0) (sym (c.end_and_flush-reply.ensures.quiet told clean)) (ap writes_in (nothing_added x.events))
+
+pub returns-clause-quiet : goal.returns-clause-quiet
+returns-clause-quiet g c = λ told clean.
+    let y = g.M.Tape.tape c.end_and_flush-reply.new.disk in
+    let z = g.M.Tape.tape c.show_reply.new.console in
+    subst (λ (t : Taped). writes_in (added t z) ≡ 0) (c.end_and_flush-reply.ensures.quiet told clean) (first_shown (reply_text c.end_and_flush-reply.result) (added y z) (c.show_reply.ensures.shown told).some)
 
 pub returns-in_err-next_after-clause-turn : goal.returns-in_err-next_after-clause-turn
 returns-in_err-next_after-clause-turn g c = λ told.

@@ -1,4 +1,6 @@
 use Rattle.std.proofs.Common.{IfOk, Result, ap, subst, sym, ◌∙◌}
+use Rattle.alto_words.specs.Fid.{disk_descriptor}
+use Rattle.disk_descriptor.specs.Opening.{HasCleanPage}
 use Rattle.disk_descriptor.specs.declared.errors.OpenError.{OpenError}
 use Rattle.disk_records.specs.Addresses.{pages_of}
 use Rattle.disk_records.specs.Causes.{HasCause}
@@ -25,7 +27,7 @@ pub returns-clause-fresh : goal.returns-clause-fresh
 returns-clause-fresh g c =
     let o = c.in_ok-opened.opened in
     let s = begun_of o.descriptor o.hints c.args.moment c.args.limit in
-    is_fresh c.args.moment c.args.limit s (is_made o.descriptor o.hints c.args.moment c.args.limit)
+    is_fresh c.args.moment c.args.limit s (is_made o.descriptor o.hints c.args.moment c.args.limit) c.in_ok-opened.ensures.clean
 
 pub returns-clause-formed : goal.returns-clause-formed
 returns-clause-formed g c =
@@ -57,12 +59,18 @@ returns-in_err-opened-clause-cause g c =
 pub returns-in_err-opened-clause-alone : goal.returns-in_err-opened-clause-alone
 returns-in_err-opened-clause-alone g c = c.in_err-opened.ensures.looks.alone
 
+pub returns-in_err-opened-clause-clean_page : goal.returns-in_err-opened-clause-clean_page
+returns-in_err-opened-clause-clean_page g c = λ told. subst (λ (r : Result Session OpenError). IfOk r (λ s. HasCleanPage (pack (g.D.Tape.tape c.args.disk.now)) disk_descriptor)) (sym (answer_is c.from_residual.result c.from_residual.ensures.1)) tt
+
 -- ---- it is
+pub returns-clause-clean_page : goal.returns-clause-clean_page
+returns-clause-clean_page g c = c.in_ok-opened.ensures.clean_page
+
 pub returns-clause-silent : goal.returns-clause-silent
 returns-clause-silent g c = c.in_ok-opened.ensures.looks.silent
 
 pub returns-clause-cause : goal.returns-clause-cause
-returns-clause-cause g c = tt
+returns-clause-cause g c = c.in_ok-opened.ensures.cause
 
 pub returns-clause-alone : goal.returns-clause-alone
 returns-clause-alone g c = c.in_ok-opened.ensures.looks.alone

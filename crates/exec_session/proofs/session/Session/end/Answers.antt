@@ -53,7 +53,7 @@ pub returns-in-Ok-clause-limit : goal.returns-in-Ok-clause-limit
 returns-in-Ok-clause-limit g c = limit_after c.args.self.now c.close.new.session (λ is. (c.in-Ok.ensures.in_need is).2) c.in-Ok.ensures.kept
 
 pub returns-in-Ok-clause-cause : goal.returns-in-Ok-clause-cause
-returns-in-Ok-clause-cause g c = tt
+returns-in-Ok-clause-cause g c = c.in-Ok.ensures.cause
 
 pub returns-in-Ok-clause-alone : goal.returns-in-Ok-clause-alone
 returns-in-Ok-clause-alone g c = c.in-Ok.ensures.alone

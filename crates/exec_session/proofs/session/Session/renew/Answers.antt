@@ -1,4 +1,6 @@
 use Rattle.std.proofs.Common.{OnErr, OnOk, Result, ap, refl, subst, sym, ◌≡◌, ◌∙◌}
+use Rattle.alto_words.specs.Fid.{disk_descriptor}
+use Rattle.disk_descriptor.specs.Opening.{HasCleanPage}
 use Rattle.disk_descriptor.specs.declared.errors.OpenError.{OpenError}
 use Rattle.disk_records.proofs.Growing.{alone_here, nothing_added}
 use Rattle.disk_records.specs.Addresses.{pages_of}
@@ -48,7 +50,13 @@ returns-in-Err-clause-formed g c = c.requires.formed
 pub returns-in-Err-clause-alone : goal.returns-in-Err-clause-alone
 returns-in-Err-clause-alone g c = alone_here (g.D.Tape.tape c.args.disk.now)
 
+pub returns-in-Err-clause-clean_page : goal.returns-in-Err-clause-clean_page
+returns-in-Err-clause-clean_page g c = λ told. tt
+
 -- ---- the pack isn't opened
+pub returns-in_err-opened-clause-clean_page : goal.returns-in_err-opened-clause-clean_page
+returns-in_err-opened-clause-clean_page g c = λ told. subst (λ (r : Result (Unit {0}) OpenError). OnOk r (HasCleanPage (pack (g.D.Tape.tape c.args.disk.now)) disk_descriptor)) (sym (answer_is c.from_residual.result c.from_residual.ensures.1)) tt
+
 pub returns-in_err-opened-clause-silent : goal.returns-in_err-opened-clause-silent
 returns-in_err-opened-clause-silent g c = c.in_err-opened.ensures.looks.silent
 
@@ -69,6 +77,9 @@ pub returns-in_err-opened-clause-alone : goal.returns-in_err-opened-clause-alone
 returns-in_err-opened-clause-alone g c = c.in_err-opened.ensures.looks.alone
 
 -- ---- it is
+pub returns-clause-clean_page : goal.returns-clause-clean_page
+returns-clause-clean_page g c = c.in_ok-opened.ensures.clean_page
+
 pub returns-clause-silent : goal.returns-clause-silent
 returns-clause-silent g c = c.in_ok-opened.ensures.looks.silent
 
@@ -86,7 +97,7 @@ returns-clause-formed g c =
     record { shape = form ∙ sym formed.0; bits = formed.1 ∙ ap pages_of (sym form); memory = was.memory; streams = was.streams; apart = was.apart }
 
 pub returns-clause-cause : goal.returns-clause-cause
-returns-clause-cause g c = tt
+returns-clause-cause g c = c.in_ok-opened.ensures.cause
 
 pub returns-clause-alone : goal.returns-clause-alone
 returns-clause-alone g c = c.in_ok-opened.ensures.looks.alone

@@ -83,7 +83,7 @@ pub returns-in-Next-2-clause-found : goal.returns-in-Next-2-clause-found
 returns-in-Next-2-clause-found g c = λ k here astray. cc
 
 pub returns-in-Next-2-clause-cause : goal.returns-in-Next-2-clause-cause
-returns-in-Next-2-clause-cause g c = tt
+returns-in-Next-2-clause-cause g c = refl
 
 pub returns-in-Next-2-clause-looks : goal.returns-in-Next-2-clause-looks
 returns-in-Next-2-clause-looks g c = looks_none 1 (g.D.Tape.tape c.args.disk.now)
@@ -95,7 +95,7 @@ pub returns-in-Copy-clause-found : goal.returns-in-Copy-clause-found
 returns-in-Copy-clause-found g c = λ k here astray. cc
 
 pub returns-in-Copy-clause-cause : goal.returns-in-Copy-clause-cause
-returns-in-Copy-clause-cause g c = tt
+returns-in-Copy-clause-cause g c = refl
 
 pub returns-in-Copy-clause-looks : goal.returns-in-Copy-clause-looks
 returns-in-Copy-clause-looks g c = looks_none 1 (g.D.Tape.tape c.args.disk.now)

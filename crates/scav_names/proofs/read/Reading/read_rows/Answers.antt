@@ -1,4 +1,4 @@
-use Rattle.std.proofs.Common.{◌≡◌, ◌<◌, ◌≤◌, IsTrue, Some, None, IfSome, ap, sym, subst, ◌∙◌}
+use Rattle.std.proofs.Common.{◌≡◌, ◌<◌, ◌≤◌, IsTrue, Some, None, IfSome, ap, sym, subst, ◌∙◌, refl}
 use Rattle.std.specs.Option.{option_or}
 use Rattle.disk_records.specs.Addresses.{pages_of}
 use Rattle.disk_records.specs.Packs.{Pack, carried}
@@ -23,6 +23,7 @@ loop-row-init g c =
     let a = g.D.Tape.tape c.args.disk.now in
     record {
       alone = c.in_ok-pass.ensures.looks.alone;
+      unfailed = c.in_ok-pass.ensures.cause;
       silent = c.in_ok-pass.ensures.looks.silent;
       stands = c.in_ok-pass.ensures.stands;
       read = λ k start. subst (λ l. HasReadTo (pack a) l c.args.self.now) (sym c.in_ok-pass.ensures.first) start;
@@ -48,6 +49,7 @@ loop-row-preserved g c =
     let turned = λ (k : IsTrue g.D.Tape.told) (start : HasReadTo (pack a) None c.args.self.now). c.turn.ensures.read (pack a) c.loop-row.pass.last (inv.read k start) words (first k) in
     record {
       alone = alone_twice before c.in_ok-meet.ensures.looks.alone;
+      unfailed = c.in_ok-meet.ensures.cause ∙ c.in_ok-row.ensures.cause ∙ inv.unfailed;
       silent = λ k. silent_twice before.grown c.in_ok-meet.ensures.looks.alone.grown (silent k) (c.in_ok-meet.ensures.looks.silent k);
       stands = stands_same (pack (g.D.Tape.tape c.meet.new.disk)) c.in_ok-row.ensures.stands (λ k. looks_pack c.in_ok-meet.ensures.looks k);
       read = λ k start. subst (λ l. HasReadTo (pack a) l c.meet.new.self) (sym last_is)
@@ -79,16 +81,16 @@ pub returns-clause-alone : goal.returns-clause-alone
 returns-clause-alone g c = alone_twice c.loop-row.invariant.alone c.in_ok-row.ensures.looks.alone
 
 pub returns-in_err-pass-clause-cause : goal.returns-in_err-pass-clause-cause
-returns-in_err-pass-clause-cause g c = cause_of_swept c.in_err-pass.field-0.0 c.from_residual.result (alone_here _) c.in_err-pass.ensures.looks.alone c.in_err-pass.ensures.cause c.from_residual.ensures.1
+returns-in_err-pass-clause-cause g c = cause_of_swept c.in_err-pass.field-0.0 c.from_residual.result (alone_here _) refl c.in_err-pass.ensures.looks.alone c.in_err-pass.ensures.cause c.from_residual.ensures.1
 
 pub returns-in_err-row-clause-cause : goal.returns-in_err-row-clause-cause
-returns-in_err-row-clause-cause g c = cause_of_part c.in_err-row.field-0.0 c.from_residual-in_err-row.result c.loop-row.invariant.alone c.in_err-row.ensures.looks.alone c.in_err-row.ensures.cause c.from_residual-in_err-row.ensures.1
+returns-in_err-row-clause-cause g c = cause_of_part c.in_err-row.field-0.0 c.from_residual-in_err-row.result c.loop-row.invariant.alone c.loop-row.invariant.unfailed c.in_err-row.ensures.looks.alone c.in_err-row.ensures.cause c.from_residual-in_err-row.ensures.1
 
 pub returns-in_err-meet-clause-cause : goal.returns-in_err-meet-clause-cause
-returns-in_err-meet-clause-cause g c = cause_of_part c.in_err-meet.field-0.0 c.from_residual-in_err-meet.result (alone_twice c.loop-row.invariant.alone c.in_ok-row.ensures.looks.alone) c.in_err-meet.ensures.looks.alone c.in_err-meet.ensures.cause c.from_residual-in_err-meet.ensures.1
+returns-in_err-meet-clause-cause g c = cause_of_part c.in_err-meet.field-0.0 c.from_residual-in_err-meet.result (alone_twice c.loop-row.invariant.alone c.in_ok-row.ensures.looks.alone) (c.in_ok-row.ensures.cause ∙ c.loop-row.invariant.unfailed) c.in_err-meet.ensures.looks.alone c.in_err-meet.ensures.cause c.from_residual-in_err-meet.ensures.1
 
 pub returns-clause-cause : goal.returns-clause-cause
-returns-clause-cause g c = tt
+returns-clause-cause g c = c.in_ok-row.ensures.cause ∙ c.loop-row.invariant.unfailed
 
 pub returns-clause-sectors : goal.returns-clause-sectors
 returns-clause-sectors g c = c.loop-row.invariant.sectors

@@ -1,4 +1,5 @@
 use Rattle.std.proofs.Common.{◌≡◌, IsTrue, None, []}
+use Rattle.disk_records.specs.Causes.{Unfailed}
 use Rattle.disk_records.specs.Tapes.{DiskAlone, added, pack}
 use Rattle.scav_table.specs.Passes.{Stands}
 use Rattle.scav_pages.proofs.Ahead.{ahead}
@@ -12,6 +13,7 @@ invariant-loop-row g l =
     let now = g.D.Tape.tape l.disk in
     record {
       alone : DiskAlone old now;
+      unfailed : Unfailed old now;
       silent : IsTrue g.D.Tape.told → added old now ≡ [];
       stands : Stands g.D.Tape.told (pack now) l.table l.pass;
       read : IsTrue g.D.Tape.told → HasReadTo (pack old) None l.fn.self → HasReadTo (pack old) l.pass.last l.self;

@@ -106,13 +106,13 @@ returns-else-eq-clause-sectors g c =
     inv.pages ∙ sym (append-nil c.args.self.now.catalogue.root_pages) ∙ ap (λ b. c.args.self.now.catalogue.root_pages ++ cond b (c.args.row.now.at ∷ []) []) (sym other)
 
 pub returns-in_err-info-clause-cause : goal.returns-in_err-info-clause-cause
-returns-in_err-info-clause-cause g c = cause_of_guarded c.in_err-info.field-0.0 c.from_residual.result (alone_here _) c.in_err-info.ensures.looks.alone c.in_err-info.ensures.cause c.from_residual.ensures.1
+returns-in_err-info-clause-cause g c = cause_of_guarded c.in_err-info.field-0.0 c.from_residual.result (alone_here _) refl c.in_err-info.ensures.looks.alone c.in_err-info.ensures.cause c.from_residual.ensures.1
 
 pub returns-in_err-take-clause-cause : goal.returns-in_err-take-clause-cause
-returns-in_err-take-clause-cause g c = cause_of_part Memory c.from_residual-in_err-take.result c.in_ok-info.ensures.looks.alone (alone_here _) tt c.from_residual-in_err-take.ensures.1
+returns-in_err-take-clause-cause g c = cause_of_part Memory c.from_residual-in_err-take.result c.in_ok-info.ensures.looks.alone c.in_ok-info.ensures.cause (alone_here _) refl c.from_residual-in_err-take.ensures.1
 
 pub returns-in_err-push-clause-cause : goal.returns-in_err-push-clause-cause
-returns-in_err-push-clause-cause g c = cause_of_part Memory c.from_residual-in_err-push.result c.in_ok-info.ensures.looks.alone (alone_here _) tt c.from_residual-in_err-push.ensures.1
+returns-in_err-push-clause-cause g c = cause_of_part Memory c.from_residual-in_err-push.result c.in_ok-info.ensures.looks.alone c.in_ok-info.ensures.cause (alone_here _) refl c.from_residual-in_err-push.ensures.1
 
 pub returns-in_err-info-clause-looks : goal.returns-in_err-info-clause-looks
 returns-in_err-info-clause-looks g c = c.in_err-info.ensures.looks
@@ -136,7 +136,7 @@ pub returns-in_ok-push-clause-looks : goal.returns-in_ok-push-clause-looks
 returns-in_ok-push-clause-looks g c = c.in_ok-info.ensures.looks
 
 pub returns-in_ok-push-clause-cause : goal.returns-in_ok-push-clause-cause
-returns-in_ok-push-clause-cause g c = tt
+returns-in_ok-push-clause-cause g c = c.in_ok-info.ensures.cause
 
 pub returns-in_ok-push-clause-found : goal.returns-in_ok-push-clause-found
 returns-in_ok-push-clause-found g c = λ k here astray. cc
@@ -145,7 +145,7 @@ pub returns-else-eq-clause-looks : goal.returns-else-eq-clause-looks
 returns-else-eq-clause-looks g c = c.in_ok-info.ensures.looks
 
 pub returns-else-eq-clause-cause : goal.returns-else-eq-clause-cause
-returns-else-eq-clause-cause g c = tt
+returns-else-eq-clause-cause g c = c.in_ok-info.ensures.cause
 
 pub returns-else-eq-clause-found : goal.returns-else-eq-clause-found
 returns-else-eq-clause-found g c = λ k here astray. cc

@@ -1,0 +1,12 @@
+pub mod Bases
+pub mod Blocking
+pub mod Growing
+pub mod Levelling
+pub mod Parts
+pub mod Remembering
+pub mod Replacing
+pub mod Shrinking
+pub mod Walks
+pub mod Wording
+pub mod Writing
+pub mod Zoning

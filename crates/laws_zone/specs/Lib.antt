@@ -1,0 +1,9 @@
+pub mod Filling
+pub mod BlockLaws
+pub mod LevelLaws
+pub mod MemoryLaws
+pub mod PlaceLaws
+pub mod WalkLaws
+pub mod WordLaws
+pub use Rattle.world_model.specs.disk_records
+pub use Rattle.world_model
