@@ -7,8 +7,8 @@ commands over an image of as many KiB, as mke2fs makes it: `write` from 60 files
 
 Each part of the work is also timed by itself. A time is the median of the runs, of whole processes from their start to their end, the two
 programs in turn, each over a fresh copy of its image, after one run that doesn't count. What they print is compared with what is wanted,
-and so is what they leave. The images stand in memory where there is /dev/shm: `debugfs` syncs its image, `alto` never does, and there a sync
-takes no time.
+and so is what they leave. The images stand in memory where there is /dev/shm: both programs sync their images, and there a sync takes no time.
+With another build of `alto`, as one that syncs nothing, all of the work is timed once more, with both builds in turn.
 
 In one more session the work is done 20 times, each time with the other files deleted too: its memory mustn't grow from the second time on.
 """
@@ -114,7 +114,7 @@ class Program:
 class Alto(Program):
     def __init__(self, folder, program):
         self.program = program
-        super().__init__(folder, "alto")
+        super().__init__(folder, program.name)
 
     def make_image(self):
         subprocess.run([self.program, "--cylinders", str(CYLINDERS), self.image, "format", "1"], check=True, stdout=subprocess.DEVNULL)
@@ -160,10 +160,10 @@ def measured(part, programs, runs):
     """The row of a part: of each program the median time, and that of the processor, and how many system calls it makes."""
     times = [[program.run(part) for program in programs] for _ in range(runs + 1)][1:]
     of_each = list(zip(*times))
-    alto, debugfs = (statistics.median(time.seconds for time in column) for column in of_each)
+    alto, other = (statistics.median(time.seconds for time in column) for column in of_each)
     used = [statistics.median(time.processor for time in column) for column in of_each]
     calls = [program.calls(part) for program in programs]
-    return [part.name, *map(in_ms, (alto, debugfs)), f"{alto / debugfs:.2f}", *map(in_ms, used), *map(counted, calls)]
+    return [part.name, *map(in_ms, (alto, other)), f"{alto / other:.2f}", *map(in_ms, used), *map(counted, calls)]
 
 
 def in_ms(seconds):
@@ -194,6 +194,7 @@ def memory_of(program, image):
 def main():
     options = arguments.parser(__doc__)
     options.add_argument("--runs", type=arguments.positive, default=21, metavar="N", help="how many runs of each part (default: 21)")
+    options.add_argument("--beside", type=arguments.built, metavar="PATH", help="another build of `alto`, over all of the work")
     options.add_argument("--folder", metavar="PATH", help=f"where the images stand (default: {IN_MEMORY}, if it is there)")
     options = arguments.read(options)
     where = options.folder or (IN_MEMORY if IN_MEMORY.is_dir() else None)
@@ -213,6 +214,10 @@ def main():
                     program.images[True] = program.image.read_bytes()
         for program in (alto, debugfs):
             program.compare_left(NAMES[1::2])
+        if options.beside:
+            beside = Alto(folder, options.beside)
+            print_row(["", "alto", "beside", "ratio", "alto", "beside", "alto", "beside"])
+            print_row(measured(part, [alto, beside], options.runs))
         alto.image.write_bytes(alto.images[False])
         most = memory_of(options.program, alto.image)
     print(f"the load was {os.getloadavg()[0]:.1f}")

@@ -56,7 +56,7 @@ def most_memory(process):
 
 
 def write_all(process, typed):
-    """Writes typed lines, and waits wherever the program is behind with them."""
+    """Writes typed lines, and waits wherever the program is late with them."""
     process.stdin.write(typed)
     process.stdin.flush()
 

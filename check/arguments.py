@@ -1,11 +1,11 @@
-"""The arguments of the scripts in check/ and bench/, which all of them read in one way, the program that they run, and how they end."""
+"""Run by other scripts: the arguments of those in check/ and bench/, read in one way, the program that they run, and how they end."""
 import argparse
 import pathlib
 import random
-import subprocess
 import sys
 
-TOP = pathlib.Path(__file__).resolve().parent.parent
+import building
+from building import TOP
 
 
 def parser(description):
@@ -40,16 +40,8 @@ def positive(text):
 def read(made):
     """What the words of the process ask for. The program is built where none is named."""
     options = made.parse_args()
-    options.program = options.program or build()
+    options.program = options.program or building.build()
     return options
-
-
-def build():
-    """Builds the program, which is proved first where it changed, and answers its path."""
-    crate = TOP / "crates" / "alto"
-    if subprocess.run(["rt", "run", "--", "--help"], cwd=crate, stdout=subprocess.DEVNULL).returncode != 0:
-        sys.exit("the program can't be built")
-    return crate / "out" / "alto"
 
 
 def end(name, failures, passed):

@@ -1,5 +1,5 @@
 #!/usr/bin/env python3
-"""Copies files into packs and out of them by tools/altocp, and compares bytes, names, what is said and the exit code.
+"""Run by the gate: copies files into packs and out of them by tools/altocp, and compares bytes, names, what is said and the exit code.
 
 60 files of 0 to 20,480 bytes go into a formatted pack of 203 cylinders and come out again, under names with versions and in a directory
 too; `show` has to list them, and no hint may be false. Then come full packs, names that are taken or can't be, files that aren't there,
@@ -18,6 +18,7 @@ import arguments
 
 sys.path.append(str(arguments.TOP / "tools"))
 from packtools.pack import read_pack
+from packtools.session import Session
 from packtools.survey import Survey
 
 SECONDS = 20
@@ -212,10 +213,12 @@ def check_names(place):
 
 
 def check_one_name(place):
-    for path, content in (("A", b"1"), ("in/a", b"22")):
+    for path, content in (("A", b"1"), ("in/A", b"22"), ("in/a", b"333")):
         place.file(path, content)
-    place.copy("A", "in/a", "pack:", said="A -> pack:A, 1 bytes|in/a -> pack:a!2, 2 bytes")
-    told = "in/a: pack:a: A was just copied there|1 of 2 files were copied"
+    place.copy("A", "in/A", "pack:", said="A -> pack:A, 1 bytes|in/A -> pack:A!2, 2 bytes")
+    told = "in/A: pack:A: A was just copied there|1 of 2 files were copied"
+    place.copy("-f", "A", "in/A", "pack:", said="A -> pack:A!2, 1 bytes", told=told)
+    told = "in/a: A has the same name except for the case of letters, which a pack doesn't tell apart|1 of 2 files were copied"
     place.copy("-f", "A", "in/a", "pack:", said="A -> pack:A!2, 1 bytes", told=told)
     place.type("mkdir D", "make D>A")
     (place.folder / "out").mkdir()
@@ -296,6 +299,9 @@ def check_not_entered(place):
         for words in (["A", "pack:"], ["pack:A", "-"]):
             place.copy(*words, told=f"pack: {reason}")
         (place.folder / "pack").write_bytes(before)
+    with Session(place.program, str(place.folder / "pack")):
+        for words in (["A", "pack:"], ["pack:A", "-"], ["-r", "A", "pack:"]):
+            place.copy(*words, told="pack: another session has it open")
     place.copy("A", "nowhere:", told="nowhere: no pack")
     place.copy("A", "short:", told="short: bad length 1000")
     place.copy("A", ".:", told=".: no pack")

@@ -1,5 +1,5 @@
 #!/usr/bin/env python3
-"""Scavenges random damaged pack files, and compares report, listings and what is left with what follows from labels by rule.
+"""Run by the gate: scavenges random damaged pack files, and compares report, listings and what is left with what labels say.
 
 Sound packs come from the typed sessions of check/sessions.py, of one drive and two; some of one drive get a second one. Each is damaged
 in several ways: words of labels, links, counts, versions, leaders, directories, DiskDescriptor and headers; pages that are copied, moved,

@@ -1,5 +1,5 @@
 #!/usr/bin/env python3
-"""Replays the transcripts of demo/, and compares what is printed, line by line.
+"""Run by the gate: replays the transcripts of demo/, and compares what is printed, line by line.
 
 In a transcript a line that begins with `$ ` is a command for sh. Where it has a here-document (`<<`), the lines after it that begin
 with `> ` belong to it. Then comes all that it prints, on the standard error too, and `[exit code N]` on a line of its own where it

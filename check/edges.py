@@ -1,5 +1,5 @@
 #!/usr/bin/env python3
-"""Runs the program as it is called from a shell, and compares exit code, standard output, standard error and the files left.
+"""Run by the gate: runs the program as it is called from a shell, and compares exit code, both outputs and the files left.
 
 Each run has a folder of its own and at most 10 seconds. What is wanted stands in docs/commands.md, and was never taken from a run.
 """
@@ -163,6 +163,11 @@ def check_pack_files(program):
     Run(program, ["pipe", "boot"], {"pipe": os.mkfifo}, PATCHES).gives(NO_SESSION, err=b"bad length 0\n")
     for device in ["/dev/null", "/dev/zero"]:
         Run(program, [device, "boot"], typed=PATCHES).gives(NO_SESSION, err=b"bad length 0\n")
+    # what is opened for reading alone has to be a file
+    for word in ["show", "halt"]:
+        Run(program, ["pipe", word], {"pipe": os.mkfifo}).gives(NO_SESSION, err=b"no pack\n")
+        for path in ["/dev/null", "/dev/zero", "."]:
+            Run(program, [path, word]).gives(NO_SESSION, err=b"no pack\n")
     # the complaint can't be said: the exit code says it
     for redirect in ["2>&-", "2>/dev/full"]:
         Run(program, ["missing", "boot"], redirect=redirect).gives(NO_SESSION)
@@ -448,7 +453,8 @@ def with_mode(mode, content):
 
 
 def check_file_for_reading(program):
-    """A pack file that may only be read. No permission binds root, so another user runs a copy of the program there."""
+    """A pack file that may only be read: it is listed, and the words that write have no pack. No permission binds root, so another user runs
+    a copy of the program there."""
     before = (lambda: os.setuid(NOBODY)) if os.geteuid() == 0 else None
     if not may(before):
         print("edges: left out, for no other user can be taken: a pack file that may only be read")
@@ -459,9 +465,107 @@ def check_file_for_reading(program):
         copied = shutil.copy(program, folder)
         os.chmod(copied, 0o755)
         Run(copied, ["pack", "show"], {"pack": with_mode(0o666, pack)}, before=before).gives(DONE, LISTING, left={"pack": pack})
-        for word in ["boot", "show", "scavenge"]:
-            run = Run(copied, ["pack", word], {"pack": with_mode(0o444, pack)}, PATCHES, before=before)
+        for words in [["boot"], ["scavenge"], ["format", "1"], ["prepare", "1"]]:
+            run = Run(copied, ["pack", *words], {"pack": with_mode(0o444, pack)}, PATCHES, before=before)
             run.gives(NO_SESSION, err=b"no pack\n", left={"pack": pack})
+        for word, code, out in [("show", DONE, LISTING), ("halt", USAGE, b"usage\n")]:
+            Run(copied, ["pack", word], {"pack": with_mode(0o444, pack)}, before=before).gives(code, out, left={"pack": pack})
+        both = crossed()
+        files = {name: with_mode(0o444, content) for name, content in both.items()}
+        Run(copied, ["--second", "two", "one", "show"], files, before=before).gives(DONE, LISTING_OF_TWO, left=both)
+
+
+def asked(program, folder, words):
+    """What a run with these words answers in a folder: exit code, standard output, standard error."""
+    ended = subprocess.run([program, *words], cwd=folder, input=PATCHES, capture_output=True, timeout=SECONDS)
+    return ended.returncode, ended.stdout, ended.stderr
+
+
+class Session:
+    """A session on pack files in a folder, which has replied to the line PATCH and waits for the next one."""
+
+    def __init__(self, program, folder, words):
+        streams = {"stdin": subprocess.PIPE, "stdout": subprocess.PIPE}
+        self.process = subprocess.Popen([program, *words, "boot"], cwd=folder, **streams)
+        self.process.stdin.write(PATCH)
+        self.process.stdin.flush()
+        if self.process.stdout.readline() != b"done\n":
+            failures.append(f"{words}: a session doesn't begin")
+
+    def kill(self):
+        """Ends it where it stands."""
+        with self.process:
+            self.process.kill()
+
+
+def check_in_use(program):
+    """Runs on a pack file that a session has open, which is one of two drives too: the pack is in use, and nothing is read or written. Once
+    the session was killed, it isn't."""
+    patched, other = abcde(b"ABBDE", packs.OPEN), abcde()
+    with tempfile.TemporaryDirectory() as folder:
+        folder = pathlib.Path(folder)
+        (folder / "pack").write_bytes(other)
+        (folder / "other").write_bytes(other)
+        (folder / "link").symlink_to("pack")
+        session = Session(program, folder, ["pack"])
+        for paths in [["pack"], ["link"], ["--second", "other", "pack"], ["--second", "pack", "other"]]:
+            for words in [["boot"], ["show"], ["scavenge"], ["format", "1"], ["prepare", "1"], ["halt"]]:
+                found = asked(program, folder, [*paths, *words])
+                if found != (NO_SESSION, b"", b"pack in use\n"):
+                    failures.append(f"{[*paths, *words]} on a pack in use: {found}")
+        # what is refused before the lock is asked for
+        for words in [["--cylinders", "2", "pack", "boot"], ["--second", "link", "pack", "boot"]]:
+            found = asked(program, folder, words)
+            if found != (NO_SESSION, b"", b"no pack\n"):
+                failures.append(f"{words} on a pack in use: {found}")
+        if ((folder / "pack").read_bytes(), (folder / "other").read_bytes()) != (patched, other):
+            failures.append("a pack in use is changed by others")
+        session.kill()
+        rows = [
+            ("show", (DONE, LISTING, b"")),
+            ("boot", (IN_NEED, b"pack not clean: mark 2\n", b"")),
+            ("scavenge", (DONE, SCAVENGED, b"")),
+            ("boot", (DONE, REPLIES, b"")),
+        ]
+        for word, wanted in rows:
+            found = asked(program, folder, ["pack", word])
+            if found != wanted:
+                failures.append(f"{word} after a session was killed: {found}, and not {wanted}")
+
+
+def check_two_in_use(program):
+    """Each file of a session on two drives."""
+    with tempfile.TemporaryDirectory() as folder:
+        folder = pathlib.Path(folder)
+        for name, content in crossed().items():
+            (folder / name).write_bytes(content)
+        session = Session(program, folder, ["--second", "two", "one"])
+        for paths in [["one"], ["two"], ["--second", "two", "one"], ["--second", "one", "two"]]:
+            for word in ["boot", "show"]:
+                found = asked(program, folder, [*paths, word])
+                if found != (NO_SESSION, b"", b"pack in use\n"):
+                    failures.append(f"{[*paths, word]} on two drives in use: {found}")
+        session.kill()
+
+
+def check_listed_at_once(program):
+    """A pack is listed while another process lists it, and isn't written meanwhile. The first listing is longer than what its pipe has."""
+    pack, listing = packs.full_pack(203, 200)
+    with tempfile.TemporaryDirectory() as folder:
+        folder = pathlib.Path(folder)
+        (folder / "pack").write_bytes(pack)
+        reader, writer = os.pipe()
+        fcntl.fcntl(writer, fcntl.F_SETPIPE_SZ, resource.getpagesize())
+        with open(reader, "rb", buffering=0) as pipe, subprocess.Popen([program, "pack", "show"], cwd=folder, stdout=writer) as process:
+            os.close(writer)
+            shown = pipe.read(1)
+            for word, wanted in [("show", (DONE, listing, b"")), ("boot", (NO_SESSION, b"", b"pack in use\n"))]:
+                found = asked(program, folder, ["pack", word])
+                if found != wanted:
+                    failures.append(f"{word} while a pack is listed: {found[0]}, {found[2]!r}")
+            shown += pipe.read()
+        if (process.returncode, shown, (folder / "pack").read_bytes()) != (DONE, listing, pack):
+            failures.append("a pack that is listed twice at once isn't listed whole")
 
 
 def check_without_null_device(program):
@@ -530,7 +634,7 @@ def check_refused_writes(program):
     Run(program, two, before=refused_past(SMALL)).gives(DONE, NO_FILES, left={"one": bytes(SMALL), "two": bytes(SMALL)})
     pack = {"pack": abcde()}
     Run(program, ["pack", "boot"], pack, PATCHES, before=refused_past(1_000)).gives(DISK_FAILED, b"done\n", left=pack)
-    # the mark stands on sector 4, before byte 3,000, and the page behind it
+    # the mark stands on sector 4, before byte 3,000, and the page after it
     boot, opened = ["--second", "two", "one", "boot"], crossed(mark=packs.OPEN)
     Run(program, boot, crossed(), b"patch #4 0 56\n", before=refused_past(3_000)).gives(DISK_FAILED, left=opened)
 
@@ -560,7 +664,7 @@ def check_openings(program):
 
 
 def check_size_limit(program):
-    """A write behind a limit on the size of files stops the process: a shorter file stays, and later it is refused."""
+    """A write past a limit on the size of files stops the process: a shorter file stays, and later it is refused."""
     new, size = ["--cylinders", "2", "new", "show"], 20_480
     short = {"new": bytes(size)}
     Run(program, new, before=limited(size)).gives(-signal.SIGXFSZ, left=short)
@@ -769,6 +873,9 @@ CHECKS = [
     check_prepare,
     check_scavenge,
     check_file_for_reading,
+    check_in_use,
+    check_two_in_use,
+    check_listed_at_once,
     check_without_null_device,
     check_size_limit,
     check_refused_writes,

@@ -1,4 +1,4 @@
-"""Typed lines, read as docs/formats.md has them, for the plain program of check/plain.py."""
+"""Run by other scripts: typed lines, read as docs/formats.md has them, for the plain program of check/plain.py."""
 import re
 import sys
 import typing

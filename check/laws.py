@@ -1,18 +1,29 @@
 #!/usr/bin/env python3
-"""The table of docs/laws.md: which law answers which question about which operation.
+"""Run by check/documents.py, and by hand: prints the laws of a crate by module, each with its sentence, which is its docstring.
 
-Prints it as the law functions have it; with --write it comes into docs/laws.md. check/documents.py compares the two.
+Without a crate it prints what it makes of docs/laws.md: the table that says which law answers which question about which operation, and the
+list of the laws that no proof cites. --write puts both into it. check/documents.py compares them, and reads the sentences.
 """
 # A law that is named OPERATION_ANSWER, as grow_keeps_links, is found by its name; those of several operations stand in SHARED.
 import argparse
+import collections
+import functools
 import re
 import sys
+import textwrap
 
 sys.dont_write_bytecode = True
+import contracts
 import names
 
 DOCUMENT = names.TOP / "docs/laws.md"
-BEGIN, END = "<!-- laws -->\n", "<!-- end of laws -->\n"
+SENTENCES = names.TOP / "check/laws-sentences.txt"
+SENTENCE_WORDS = 45
+LINE_WIDTH = 140
+# what a proof cites of a crate: its lemmas in braces, or the alias of a file
+CITED = re.compile(r"(\w+)\.proofs\.[\w.]+(?:\.\{([^}]*)\}| as (\w+))")
+# the law crate whose laws are packs that meet premises, so that nothing is to cite them
+SHOWN = "laws_met"
 OPERATIONS = "put grow cut title stamp make drop release slot enter leave widen open serial close".split()
 # the module of an operation's laws, where it has another name
 MODULES = {"release": "drop", "slot": "drop", "open": "descriptor", "serial": "descriptor", "close": "descriptor"}
@@ -105,21 +116,163 @@ def table():
     return "".join([lines[0], "|---" * len(head) + "|\n", *lines[1:]])
 
 
-def parts():
-    """docs/laws.md as three texts: up to its table, the table, and from its end on."""
-    head, _, rest = DOCUMENT.read_text().partition(BEGIN)
-    old, _, tail = rest.partition(END)
-    return head + BEGIN, old, END + tail
+@functools.cache
+def proofs_of(crate):
+    """The texts of a crate's proofs and definitions by the parts of their paths."""
+    top = names.TOP / "crates" / crate
+    files = [file for folder in ("proofs", "specs") for file in sorted((top / folder).rglob("*.antt"))]
+    return {file.relative_to(top).with_suffix("").parts: file.read_text() for file in files}
+
+
+@functools.cache
+def cited_elsewhere():
+    """The lemmas that crates cite from others: the crate where each stands, and its name."""
+    found = set()
+    for crate in names.crates():
+        for text in proofs_of(crate).values():
+            for home, listed, alias in CITED.findall(text):
+                cited = re.findall(rf"\b{alias}\.(\w+)", text) if alias else re.findall(r"(\w+)(?: as \w+)?", listed)
+                found.update((home, name) for name in cited if home != crate)
+    return found
+
+
+def is_cited(law):
+    """Whether a proof cites a law: one of another crate, or one of its own beside its lemma, its door and the answers of its function."""
+    crate, module, name = law
+    beside = re.compile(rf"^(?!(?:(?:pub|abbrev) )*{name}\b)(?:(?!--).)*\b{name}\b", re.M)
+    own = [parts for parts in proofs_of(crate) if parts != ("proofs", module, "Laws") and parts[-3:-1] != (module, name)]
+    return (crate, name) in cited_elsewhere() or any(name in text and beside.search(text) for text in map(proofs_of(crate).get, own))
+
+
+def ahead():
+    """The list of the laws that no proof cites, a row for each crate."""
+    found = collections.defaultdict(lambda: collections.defaultdict(list))
+    for crate, module, name in all_laws():
+        if crate != SHOWN and not is_cited((crate, module, name)):
+            found[crate][module].append(name)
+    lines = ["| Crate | Laws that no proof cites |\n", "|---|---|\n"]
+    for crate, modules in found.items():
+        lines.append(f"| `{crate}` | " + "; ".join(f"`{module}`: {', '.join(found)}" for module, found in modules.items()) + " |\n")
+    return "".join(lines)
+
+
+# what is made of docs/laws.md, by the name that stands in the lines around it
+MADE = {"laws": table, "ahead of code": ahead}
+
+
+def made_part(name, text):
+    """What stands in a text between the two lines of this name; None if they aren't there."""
+    found = re.search(rf"<!-- {name} -->\n(.*?)<!-- end of {name} -->\n", text, re.S)
+    return found and found[1]
+
+
+def write():
+    """Puts the table and the list into docs/laws.md."""
+    text = DOCUMENT.read_text()
+    for name, make in MADE.items():
+        text = text.replace(f"<!-- {name} -->\n{made_part(name, text)}<!--", f"<!-- {name} -->\n{make()}<!--")
+    DOCUMENT.write_text(text)
+
+
+def with_sentences(crate):
+    """The laws of a crate, also of one of code: each function with its docstring."""
+    return [(law, law.name.comment()) for law in contracts.functions(crate) if law.public and law.is_law()]
+
+
+@functools.cache
+def written_sentences():
+    """The sentences of check/laws-sentences.txt by the paths of their laws, each with its place."""
+    found = {}
+    for number, line in enumerate(SENTENCES.read_text().splitlines(), 1):
+        if line and not line.startswith("#"):
+            path, _, sentence = line.partition(": ")
+            found[tuple(path.split("::"))] = (f"check/laws-sentences.txt:{number}", sentence)
+    return found
+
+
+def told(crate):
+    """The laws of a crate as ./do laws prints them: by module, each with its sentence."""
+    modules = collections.defaultdict(list)
+    for law, docstring in with_sentences(crate):
+        _, sentence = written_sentences().get(law.name.path, ("", docstring))
+        modules[law.file].append(f"    {law.name.path[-1]}\n        {sentence}\n")
+    for file, laws in modules.items():
+        module = "::".join(names.module_of(crate, names.TOP / "crates" / crate / "src", file))
+        head = re.match(r"//!? ?(.*)|", file.read_text())[1] or ""
+        yield f"{module}  {head}\n" + "".join(laws)
+
+
+def adopt(crate):
+    """Makes the sentences of check/laws-sentences.txt docstrings of a crate, which is to be proved anew then, and takes their lines."""
+    laws = [law for law, _ in with_sentences(crate) if law.name.path in written_sentences()]
+    for law in sorted(laws, key=lambda law: law.at, reverse=True):
+        lines = law.file.read_text().splitlines(keepends=True)
+        first = law.at
+        while lines[first - 1].startswith("///"):
+            first -= 1
+        sentence = textwrap.wrap(written_sentences()[law.name.path][1], LINE_WIDTH - len("/// "))
+        law.file.write_text("".join([*lines[:first], *(f"/// {line}\n" for line in sentence), *lines[law.at :]]))
+    gone = tuple(f"{'::'.join(law.name.path)}: " for law in laws)
+    kept = [line for line in SENTENCES.read_text().splitlines(keepends=True) if not line.startswith(gone)]
+    SENTENCES.write_text(re.sub(r"\n{3,}", "\n\n", "".join(kept)).rstrip("\n") + "\n")
+
+
+def check_sentences():
+    """Each law has a sentence of few words: its docstring, or a line of check/laws-sentences.txt until its crate is proved anew."""
+    there = {law.name.path: (law, docstring) for crate in names.crates() for law, docstring in with_sentences(crate)}
+    for path, (law, docstring) in there.items():
+        words = len(docstring.split())
+        if path not in written_sentences() and not 0 < words <= SENTENCE_WORDS:
+            yield f"{law.name.place()}: the docstring of {'::'.join(path)} has {words} words, and may have from 1 to {SENTENCE_WORDS}"
+    for path, (place, sentence) in written_sentences().items():
+        words = len(sentence.split())
+        if path not in there:
+            yield f"{place}: names the law {'::'.join(path)}, which isn't there"
+        elif there[path][1] == sentence:
+            yield f"{place}: is what the docstring of {'::'.join(path)} says, so that its line can go"
+        if not 0 < words <= SENTENCE_WORDS:
+            yield f"{place}: has {words} words, and may have from 1 to {SENTENCE_WORDS}"
+
+
+def check_page():
+    """docs/laws.md has the table and the list as they are made, and a section for each crate of laws."""
+    text = DOCUMENT.read_text()
+    for name, make in MADE.items():
+        if made_part(name, text) != make():
+            yield f"docs/laws.md: what stands below the line `<!-- {name} -->` isn't what the laws say, which ./do docs --write makes anew"
+    for crate in dict.fromkeys(path[0] for path in all_laws()):
+        if not re.search(rf"^## {crate}$", text, re.M):
+            yield f"docs/laws.md: has no section for the crate {crate}"
+
+
+def check_shared():
+    """Each law that this script names is there."""
+    there = all_laws()
+    for name in sorted({law for _, law, _ in SHARED} - {path[-1] for path in there} - {"::".join(path) for path in there}):
+        yield f"check/laws.py: names the law {name}, which isn't there"
+
+
+def check_all():
+    """What check/documents.py is to complain of."""
+    yield from (*check_shared(), *check_page(), *check_sentences())
 
 
 def main():
     parser = argparse.ArgumentParser(description=__doc__, formatter_class=argparse.RawDescriptionHelpFormatter)
-    parser.add_argument("--write", action="store_true", help="puts the table into docs/laws.md")
-    if parser.parse_args().write:
-        head, _, tail = parts()
-        DOCUMENT.write_text(head + table() + tail)
+    parser.add_argument("crate", nargs="?", help="a crate that has laws")
+    parser.add_argument("--write", action="store_true", help="puts the table and the list into docs/laws.md")
+    parser.add_argument("--adopt", action="store_true", help="makes the sentences of check/laws-sentences.txt the docstrings of the crate")
+    given = parser.parse_args()
+    if given.write:
+        write()
+    elif given.crate and (given.crate not in names.crates() or not with_sentences(given.crate)):
+        sys.exit(f"{given.crate} is no crate that has laws")
+    elif given.crate and given.adopt:
+        adopt(given.crate)
+    elif given.crate:
+        print("\n".join(told(given.crate)), end="")
     else:
-        print(table(), end="")
+        print("\n".join(make() for make in MADE.values()), end="")
 
 
 if __name__ == "__main__":

@@ -1,5 +1,5 @@
 #!/usr/bin/env python3
-"""Shows packs made by hand through real pack files, and compares the whole listing of each.
+"""Run by the gate: shows packs made by hand through real pack files, and compares the whole listing of each.
 
 Each pack is named by the sentence that it shows. The listings were worked out by hand from docs/model.md, docs/formats.md and
 docs/commands.md, and never taken from a run. Besides, `show` has to end with 0, to say nothing on the standard error, and to leave
@@ -79,7 +79,7 @@ def formatted(*slots):
 
 
 def sys_dir(*slots):
-    """A SysDir on sector 1 and the sectors behind it, with these slots."""
+    """A SysDir on sector 1 and the sectors after it, with these slots."""
     return whole(1, SYS_DIR, b"SysDir.", b"".join(slots))
 
 
@@ -124,12 +124,12 @@ FILES = [
     ("the next sector's address makes a header wrong", [whole(5, A, b"A.", 5), word(5, HEADER, packs.real_of(6))], NO_FILES),
     ("an address of no sector makes a header wrong", [whole(5, A, b"A.", 5), word(5, HEADER, 0xC000)], NO_FILES),
     (
-        "a page behind a wrong header ends the file",
+        "a page under a wrong header ends the file",
         [whole(5, A, b"A.", 1_029), word(7, HEADER, packs.real_of(6))],
         ["SysDir>A. length 512", "1 files"],
     ),
     (
-        "a page behind a wrong header hides no copy above",
+        "a page under a wrong header hides no copy above",
         [leader(5, A, b"A."), data(6, A, 1, 5), data(20, A, 1, 9), word(6, HEADER, 0)],
         ["SysDir>A. length 9", "1 files"],
     ),
@@ -143,7 +143,7 @@ FILES = [
         ["SysDir>A. length 5", "1 files"],
     ),
     (
-        "a second copy of a page below counts, and the file goes on behind it",
+        "a second copy of a page below counts, and the file goes on after it",
         [leader(5, A, b"A."), data(6, A, 1, 5), data(7, A, 2, 3), data(2, A, 1, PAGE)],
         ["SysDir>A. length 515", "1 files"],
     ),
@@ -186,7 +186,7 @@ FILES = [
         ["SysDir>A. length 5", "1 files"],
     ),
     (
-        "a data page of 65535 bytes behind a full page ends the file",
+        "a data page of 65535 bytes after a full page ends the file",
         [leader(5, A, b"A."), data(6, A, 1, 513), data(8, A, 1, PAGE), data(7, A, 2, ONES)],
         ["SysDir>A. length 512", "1 files"],
     ),
@@ -277,7 +277,7 @@ LEADER_NAMES = [
         ["SysDir>.. length 0", "SysDir>aZ09+-.$. length 0", "2 files"],
     ),
     (
-        "what stands behind the name isn't read",
+        "what stands after the name isn't read",
         [leader(5, A, b"A."), word(5, VALUE + 7, 0x2E21), word(5, VALUE + 8, ONES)],
         ["SysDir>A. length 0", "1 files"],
     ),
@@ -351,7 +351,7 @@ SUFFIXES = [
         ["SysDir>A. length 4", "SysDir>A.$1. length 3", "SysDir>A.$2. length 5", "3 files"],
     ),
     (
-        "a file whose own name was given away has a suffix behind it",
+        "a file whose own name was given away has a suffix after it",
         numbered(b"A.", b"A.", b"A.$1."),
         ["SysDir>A. length 3", "SysDir>A.$1. length 4", "SysDir>A.$1.$1. length 5", "3 files"],
     ),
@@ -361,7 +361,7 @@ SUFFIXES = [
         ["SysDir>diskdescriptor.$1. length 4", "SysDir>SysDir.$1. length 3", "2 files"],
     ),
     (
-        "the tenth suffix stands behind the first one",
+        "the tenth suffix stands after the first one",
         copies(b"A.", 11),
         ["SysDir>A. length 3", "SysDir>A.$1. length 4", "SysDir>A.$10. length 13", "SysDir>A.$2. length 5", "SysDir>A.$3. length 6"]
         + ["SysDir>A.$4. length 7", "SysDir>A.$5. length 8", "SysDir>A.$6. length 9", "SysDir>A.$7. length 10", "SysDir>A.$8. length 11"]
@@ -623,7 +623,7 @@ def bad_slots(file):
         ("of an entry that is a word longer than its name asks for", changed_slot(file, 0, 0x0400 | 9) + b"\0\0"),
         ("of an entry that is a word shorter than its name asks for", changed_slot(file, 0, 0x0400 | 7)[:-2]),
         ("whose word 4 isn't 0", changed_slot(file, 4, 1)),
-        ("whose byte behind the name isn't 0", slot(file, b"D.")[:-1] + b"\1"),
+        ("whose byte after the name isn't 0", slot(file, b"D.")[:-1] + b"\1"),
         ("with a name of no characters", slot(file, b"")),
         ("with a name of one character", slot(file, b".")),
         ("with a name of forty characters", slot(file, LONG[40])),
@@ -671,7 +671,7 @@ DIRECTORIES = [
     ),
     ("an entry without its last word ends a directory", two_files((FIRST + SECOND)[:-2]), B_ALONE),
     ("an entry without its last byte ends a directory", two_files((FIRST + SECOND)[:-1]), B_ALONE),
-    ("an odd byte behind the last slot is left out", two_files(FIRST + SECOND + b"\1"), B_AND_C),
+    ("an odd byte after the last slot is left out", two_files(FIRST + SECOND + b"\1"), B_AND_C),
     ("an entry of which the first word alone is there ends a directory", two_files(FIRST + SECOND[:2]), B_ALONE),
     # an entry of 8 words over the end of a page of 256 words
     (
@@ -680,7 +680,7 @@ DIRECTORIES = [
         ["SysDir>B. length 3", "1 files"],
     ),
     (
-        "and behind it an entry without its last byte ends the directory",
+        "and after it an entry without its last byte ends the directory",
         two_files((free_slot(250) + FIRST + SECOND)[:-1]),
         B_ALONE,
     ),
@@ -697,7 +697,7 @@ DIRECTORIES = [
         ["SysDir>A. length 3", "1 files"],
     ),
     (
-        "a page of a directory behind one that isn't full isn't read",
+        "a page of a directory after one that isn't full isn't read",
         [leader(1, SYS_DIR, b"SysDir."), data(2, SYS_DIR, 1, 510, free_slot(255)), data(3, SYS_DIR, 2, 16, slot(A, b"B."))]
         + [whole(5, A, b"A.", 3)],
         ["SysDir>A. length 3", "1 files"],

@@ -1,8 +1,8 @@
 #!/usr/bin/env python3
-"""Types lines to a session over a pack file, and copies the file once the last one is replied to: the copy is as a kill there leaves it.
+"""Run by hand, and by check/demos.py: types lines to a session, and copies its pack file once the last one is replied to.
 
-So packs that were left open are made, for the transcripts of demo/. The session itself goes on to its end. `alto` has to be on the path,
-and the pack is that of one drive. The replies are printed.
+The copy is as a kill there leaves it: so packs that were left open are made, for the transcripts of demo/. The session itself goes on to
+its end. `alto` has to be on the path, and the pack is that of one drive. The replies are printed.
 """
 import argparse
 import shutil

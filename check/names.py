@@ -1,14 +1,15 @@
 #!/usr/bin/env python3
-"""Finds laws, functions, types, variants and definitions by words of their name or of the first sentence of their comment.
+"""Run by hand, as `./do find`, and by check/documents.py: finds laws, functions, types and definitions.
 
-All of the words have to be there. Law functions come first, then what has the words in its name: code before definitions, and in each
-what they are the whole name of. Functions that are private to their crate come last, after 'inside'. Each is shown with its place and
-that sentence.
+They are found by words of their name or of the first sentence of their comment. All of the words have to be there. Law functions come
+first, then what has the words in its name: code before definitions, and in each what they are the whole name of. Functions that are private
+to their crate come last, after 'inside'. Each is shown with its place and that sentence.
 """
 # A path is as the code imports it, with `::` between its parts: a crate, modules, a type and an item or a variant of src/; or a crate,
 # `specs` or `proofs`, folders, a file and what it defines. What a root file passes on by `pub use` has the shorter path too.
 import argparse
 import collections
+import functools
 import pathlib
 import re
 import signal
@@ -40,8 +41,8 @@ class Name(typing.NamedTuple):
     def place(self):
         return f"{self.file.relative_to(TOP)}:{self.at + 1}"
 
-    def sentence(self):
-        """The first sentence of the comment above it, or the heading where there is none."""
+    def comment(self):
+        """The comment above it, or the heading where there is none."""
         words = []
         for line in reversed(self.lines[: self.at]):
             comment = COMMENT.match(line)
@@ -51,7 +52,11 @@ class Name(typing.NamedTuple):
                 words.insert(0, comment["words"])
             if comment and comment["heading"]:
                 break
-        whole = " ".join(words)
+        return " ".join(words)
+
+    def sentence(self):
+        """The first sentence of that comment."""
+        whole = self.comment()
         first = SENTENCE.match(whole)
         return first[1] if first else whole
 
@@ -69,6 +74,7 @@ class Name(typing.NamedTuple):
         return "\n".join(self.lines[self.at : end + 1])
 
 
+@functools.cache
 def crates():
     """The crates of crates.txt, lowest first as they stand there."""
     lines = [re.match(r"\w*", line)[0] for line in (TOP / "crates.txt").read_text().splitlines()]

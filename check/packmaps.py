@@ -1,5 +1,5 @@
 #!/usr/bin/env python3
-"""Draws packs by tools/packmap, and compares what the pictures say with what `show` lists and with what was put on the packs by hand.
+"""Run by the gate: draws packs by tools/packmap, and compares the pictures with what `show` lists and what was put there by hand.
 
 The rows below name how many sectors of each kind there are, and each false hint; they were worked out by hand from docs/model.md and
 docs/formats.md. The packs of check/listings.py have to be drawn with the names and lengths of their listings. Packs that the program

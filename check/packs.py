@@ -1,4 +1,4 @@
-"""Packs made by hand, for the scripts of check/ and bench/.
+"""Run by other scripts: packs made by hand, for the scripts of check/ and bench/.
 
 A pack file is its sectors in order, 532 bytes each: header (pack number, real address), label and value, words with the high byte
 first. docs/formats.md tells the words. A file's full name is its serial, the high word first, and its version. Run as a script, it
@@ -60,7 +60,7 @@ def free_sectors(cylinders):
 
 
 def counted(text):
-    """A name behind its length, in whole words."""
+    """A name after its length, in whole words."""
     return (bytes([len(text)]) + text).ljust(len(text) // 2 * 2 + 2, b"\0")
 
 
@@ -86,7 +86,7 @@ def put_page(sectors, at, file, number, value, count=PAGE, following=ONES, previ
 
 
 def put_file(sectors, at, file, text, data):
-    """Puts a file from a sector on, its leader first, and answers the sector behind it. The last data page isn't full."""
+    """Puts a file from a sector on, its leader first, and answers the sector after it. The last data page isn't full."""
     pages = [leader(text)] + [data[place : place + PAGE] for place in range(0, len(data) + 1, PAGE)]
     last = at + len(pages) - 1
     assert 0 <= at and last < len(sectors), "the file fits the pack"

@@ -1,8 +1,9 @@
-"""A plain program that answers typed lines by names and bytes alone: no sector, label, link, address or table stands in it.
+"""Run by other scripts: a plain program that answers typed lines by names and bytes alone.
 
-A pack is its files by their serials, each with its name, its dates and its bytes; a directory has slots in place of bytes. What a line is
-answered, and which operations it makes in which order, was written from docs/commands.md, docs/formats.md and docs/model.md, and never
-from what the proved program answered. An operation is a call without arguments, so a line may be left in the middle.
+No sector, label, link, address or table stands in it. A pack is its files by their serials, each with its name, its dates and its bytes; a
+directory has slots in place of bytes. What a line is answered, and which operations it makes in which order, was written from
+docs/commands.md, docs/formats.md and docs/model.md, and never from what the proved program answered. An operation is a call without
+arguments, so a line may be left in the middle.
 """
 import itertools
 import sys
@@ -224,27 +225,32 @@ class Plain:
     # lines: each gives its text and its operations, or is refused
 
     def on_list(self, name=None):
+        """`list`: the names in SysDir or in this directory, by their order, and how many they are."""
         (found,) = self.mean((grammar.Path(None, name or self.root.name, 1), DIRECTORY))
         told = sorted((it.name for it in found.file.entries()), key=names.folded)
         return "\n".join([*told, f"{len(told)} entries"]), []
 
     def on_type(self, operand):
+        """`type`: a file's bytes in hexadecimal, 32 to a line, and how many they are."""
         (found,) = self.mean((operand, ORDINARY))
         data = found.file.content
         lines = [data[at : at + 32].hex() for at in range(0, len(data), 32)]
         return "\n".join([*lines, f"{len(data)} bytes"]), []
 
     def on_stat(self, operand):
+        """`stat`: a file's serial, length, pages, dates and the name in its leader page."""
         file = self.mean((operand, ANY))[0].file
         dates = f"created {file.created} written {file.written} read {file.read}"
         return f"#{file.serial} length {file.length()} pages {file.pages()} {dates} name {file.name}", []
 
     def on_make(self, path):
+        """`make`: a new file of no bytes, entered under the name that it gets."""
         (found,) = self.mean((path, NEW))
         file, making = self.new_file(found.directory, self.new_name(found))
         return f"made #{file.serial}", making
 
     def on_append(self, operand, data):
+        """`append`: these bytes after a file's last one; it is dated as written, also by none."""
         file = self.mean((operand, ORDINARY))[0].file
         whole = file.content + data
         self.need(len(whole) // PAGE - len(file.content) // PAGE)
@@ -252,6 +258,7 @@ class Plain:
         return f"length {len(whole)}", [*growing, self.stamping(file)]
 
     def on_patch(self, operand, offset, data):
+        """`patch`: these bytes in the place of others from an offset on, a put for each page that they touch."""
         file, end = self.mean((operand, ORDINARY))[0].file, offset + len(data)
         if end > len(file.content):
             raise Refused(f"beyond length {len(file.content)}")
@@ -259,6 +266,7 @@ class Plain:
         return "done", [partial(self.put, file, at, data[at - offset : to - offset]) for at, to in itertools.pairwise(places)]
 
     def on_cut(self, operand, length):
+        """`cut`: the first bytes of a file alone stay, and it is dated as written."""
         file = self.mean((operand, ORDINARY))[0].file
         if length > len(file.content):
             raise Refused(f"beyond length {len(file.content)}")
@@ -266,6 +274,7 @@ class Plain:
         return f"length {length}", [*cutting, self.stamping(file)]
 
     def on_copy(self, operand, path):
+        """`copy`: a new file with the bytes of another; it is dated as written if there are any."""
         old, new = self.mean((operand, ORDINARY), (path, NEW))
         data = old.file.content
         file, making = self.new_file(new.directory, self.new_name(new), more=len(data) // PAGE)
@@ -273,6 +282,7 @@ class Plain:
         return f"made #{file.serial}", making + filling
 
     def on_rename(self, old_path, new_path):
+        """`rename`: a file gets another name: in its leader page, then the old entry leaves, and then the new one comes."""
         old, new = self.mean((old_path, ORDINARY), (new_path, NEW))
         name = self.new_name(new)
         narrow = self.too_narrow(new.directory, name)
@@ -282,16 +292,19 @@ class Plain:
         return "done", [*map(self.widening, narrow), partial(setattr, old.file, "name", name), leaving, entering]
 
     def on_delete(self, path):
+        """`delete`: a file goes, and its entry becomes a free slot."""
         (found,) = self.mean((path, ORDINARY))
         return "done", [partial(self.drop, found.directory, found.entry)]
 
     def on_mkdir(self, name):
+        """`mkdir`: a new directory in SysDir; no entry there may have this name as its base."""
         if self.root.versions(name):
             raise Refused("name taken")
         file, making = self.new_file(self.root, name, [FIRST_SLOT])
         return f"made #{file.serial}", making
 
     def on_rmdir(self, name):
+        """`rmdir`: a directory without entries goes."""
         (found,) = self.mean((grammar.Path(None, name, 1), DIRECTORY))
         if found.file is self.root:
             raise Refused("system file")
@@ -300,12 +313,15 @@ class Plain:
         return "done", [partial(self.drop, self.root, found.entry)]
 
     def on_free(self):
+        """`free`: how many pages are free."""
         return f"{self.free()} pages free", []
 
     def on_settime(self, moment):
+        """`settime`: the moment of later dates."""
         return "done", [partial(setattr, self, "moment", moment)]
 
     def on_quit(self):
+        """`quit`: the session is over once this is answered."""
         return "done", []
 
     # what the pack shows

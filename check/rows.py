@@ -1,10 +1,11 @@
 #!/usr/bin/env python3
-"""Worked rows of typed sessions and of scavenges, through real pack files: what is shown, how each ends, and what `show` lists then.
+"""Run by the gate: worked rows of typed sessions and of scavenges, through real pack files.
 
-Each row begins with a pack that is formatted. Each session begins with `settime 1000`, whose `done` is the first reply. What is wanted was
-worked out by hand from docs/commands.md, and never taken from a run. Lines are parted by `|`, and a `$` in the place of the last one's end
-leaves it out; `x*n` is n times x. A pack that isn't entered or can't be scavenged, and one over which a session is said to write nothing,
-stays byte by byte. `show` lists the same before a scavenge and after it.
+They are of what is shown, how each ends, and what `show` lists then. Each row begins with a pack that is formatted. Each session begins
+with `settime 1000`, whose `done` is the first reply. What is wanted was worked out by hand from docs/commands.md, and never taken from a
+run. Lines are parted by `|`, and a `$` in the place of the last one's end leaves it out; `x*n` is n times x. A pack that isn't entered or
+can't be scavenged, and one over which a session is said to write nothing, stays byte by byte. `show` lists the same before a scavenge and
+after it.
 """
 import collections
 import pathlib

@@ -1,7 +1,8 @@
-"""What a scavenge answers over a pack, and what it has to leave: worked out by hand from labels, by the rules of docs/model.md (Scavenger).
+"""Run by other scripts: what a scavenge answers over a pack, and what it has to leave.
 
-A `Mending` counts over a survey of the pack before (tools/packtools). How often SysDir gets a page for names is counted by the slots of
-check/plain.py. `faults` tells what is wrong with the pack that a scavenge left.
+Both are worked out from labels by the rules of docs/model.md (Scavenger). A `Mending` counts over a survey of the pack before
+(tools/packtools). How often SysDir gets a page for names is counted by the slots of check/plain.py. `faults` tells what is wrong with the
+pack that a scavenge left.
 """
 import struct
 import sys

@@ -1,5 +1,5 @@
 #!/usr/bin/env python3
-"""Random typed sessions over real pack files give the replies of a plain program, and leave what it lists.
+"""Run by the gate: random typed sessions over real pack files give the replies of a plain program, and leave what it lists.
 
 check/plain.py is that program. Each pack begins as `format` leaves it, with dates of 0; some have given out most serials. Several
 sessions come one after another on each, in different moods, so that packs become full and empty again; each session begins with

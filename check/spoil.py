@@ -1,7 +1,7 @@
 #!/usr/bin/env python3
-"""Puts another word in a sector's value or label, as a stray write would: so hints are spoilt by hand, for the transcripts of demo/.
+"""Run by hand, and by check/demos.py: puts another word in a sector's value or label, as a stray write would.
 
-The pack file is that of one drive. docs/formats.md says which word is what.
+So hints are spoilt by hand, for the transcripts of demo/. The pack file is that of one drive. docs/formats.md says which word is what.
 """
 import argparse
 import struct

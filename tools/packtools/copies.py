@@ -1,4 +1,6 @@
-"""Files copied between a pack and the host, one after another."""
+"""Files copied between a pack and the host, one after another. packtools.trees says which, where folders are copied."""
+from __future__ import annotations
+
 import contextlib
 import os
 import re
@@ -8,6 +10,7 @@ import time
 import typing
 
 from packtools import names
+from packtools.dates import moment_of, seconds_of
 from packtools.pack import CYLINDER, MOST, PAGE, Faulty, is_same_file
 from packtools.session import APPENDED, NO_SUCH_NAME, Ended, Refused
 
@@ -17,9 +20,29 @@ STANDARD = "-"
 TOO_MANY = 2 * MOST * CYLINDER * PAGE
 ODD = re.compile(r"[^A-Za-z0-9+\-.$!]")
 ENDING = {signal.SIGINT, signal.SIGTERM, signal.SIGHUP}
+SECONDS_OF_YEAR = 31_556_952
 # seconds until progress is shown, and from one time to the next
 PAUSE = 0.2
 CLEARED = "\r\033[K"
+
+
+class Manner(typing.NamedTuple):
+    """How files are copied: whether older ones are deleted or overwritten, dates are kept, and host names spelled."""
+
+    is_forced: bool = False
+    keeps_dates: bool = False
+    are_spelled: bool = False
+
+    def name_of(self, host):
+        """The name on a pack for a host name."""
+        return names.spell(host) if self.are_spelled else host
+
+    def host_of(self, name):
+        """The host name, or the path in a folder, for a name on a pack. Raises `Faulty` if it would lead out of the folder."""
+        path = names.unspell(name) if self.are_spelled else name
+        if "\0" in path or any(part in ("", ".", "..") for part in path.split("/")):
+            raise Faulty(f"spells {path!r}, which is no path in a folder")
+        return path
 
 
 # names on packs
@@ -82,37 +105,51 @@ def destination(session, spot, is_several):
     return spot
 
 
+def same_but_for_case(known, source, spot):
+    """The source of another name that differs from this one in the case of letters alone, or None. `known` has the sources and the names so
+    far."""
+    directory, base = spot.directory or "", spot.name and names.typed(spot.name)[0]
+    other, text = known.setdefault((directory.lower(), base and base.lower()), (source, (directory, base)))
+    return None if text == (directory, base) else other
+
+
+CASE = "has the same name except for the case of letters, which a pack doesn't tell apart"
+
+
 class Into:
     """Copies host files into a pack: each becomes the next version of its name."""
 
-    def __init__(self, session, spot, is_forced):
-        self.session, self.spot, self.is_forced = session, spot, is_forced
+    def __init__(self, session, spot, manner=Manner()):
+        self.session, self.spot, self.manner = session, spot, manner
         self.count = 0
         # of each copy its source and its bytes, by its serial
         self.copies = {}
+        self.known = {}
 
-    def copy(self, source):
-        """Copies a file and says so. Raises `Faulty` if it can't be copied, of which then nothing stays; `Ended` if no other can either."""
-        name = self.spot.name
-        if name is None and source == STANDARD:
+    def copy(self, source, spot=None):
+        """Copies a file, to its own name or to this place, and says so. Raises `Faulty` if it can't be copied, of which then nothing stays;
+        `Ended` if no other can either."""
+        if self.spot.name is None and spot is None and source == STANDARD:
             raise Faulty("the standard input has no name: PACK:NAME states one")
         data = read(source)
-        name = name or os.path.basename(source)
-        check_name(name)
-        path = self.spot.typed(name)
+        spot = spot or Spot(self.spot.directory, self.spot.name or self.manner.name_of(os.path.basename(source)))
+        check_name(spot.name)
+        other = same_but_for_case(self.known, source, spot)
+        if other is not None:
+            raise Faulty(f"{other} {CASE}")
+        path = spot.typed(spot.name)
         try:
-            older = self.older(path) if self.is_forced else None
+            older = self.older(path) if self.manner.is_forced else None
             self.check_room(2 + len(data) // PAGE, older)
+            moment = date_of(source) if self.manner.keeps_dates and source != STANDARD else None
             with signals_held():
+                if moment is not None:
+                    self.session.settime(moment)
                 copy = self.put(path, data, older, Progress(source, len(data)))
                 self.count, self.copies[copy.serial] = self.count + 1, (source, data)
-                say(f"{source} -> {self.session.path}:{self.typed(copy)}, {len(data)} bytes")
+                say(f"{source} -> {self.session.path}:{spot.typed(names.spelled(copy.name))}, {len(data)} bytes")
         except Faulty as error:
             raise type(error)(f"{self.session.path}:{path}: {error}") from error
-
-    def typed(self, copy):
-        """How the name of a copy is typed."""
-        return self.spot.typed(names.spelled(copy.name))
 
     def older(self, path):
         """The newest file of a name, or None. Raises `Faulty` if it was copied in this run."""
@@ -138,7 +175,7 @@ class Into:
             self.session.delete(path)
         try:
             copy = self.session.stat(f"#{self.session.make(path)}")
-            self.fill(copy, data, progress)
+            self.fill(copy, path, data, progress)
             return copy
         except Faulty as error:
             if older is None:
@@ -147,14 +184,15 @@ class Into:
         finally:
             progress.end()
 
-    def fill(self, copy, data, progress):
+    def fill(self, copy, path, data, progress):
         """Puts bytes into an empty file, which is deleted if that is refused."""
         try:
             for start in range(0, len(data), APPENDED):
                 self.session.append(copy.serial, data[start : start + APPENDED])
                 progress(start + APPENDED)
         except Refused:
-            self.session.delete(self.typed(copy))
+            directory, sign, _ = path.rpartition(">")
+            self.session.delete(f"{directory}{sign}{names.spelled(copy.name)}")
             raise
 
     def complaints(self, session):
@@ -170,18 +208,19 @@ class Into:
 class Out:
     """Copies files of a pack to the host: into a folder under their names as they are typed, to a file, or to the standard output."""
 
-    def __init__(self, session, target, is_forced, packs):
-        self.session, self.target, self.is_forced, self.packs, self.count = session, target, is_forced, packs, 0
+    def __init__(self, session, target, packs, manner=Manner()):
+        self.session, self.target, self.packs, self.manner, self.count = session, target, packs, manner, 0
         # of each copy its path and the serial of the file, by what tells host files apart
         self.copies = {}
 
-    def copy(self, source):
-        """Copies a file and says so, unless it goes to the standard output. Raises `Faulty` if it can't be copied; `Ended` if no other can
-        either."""
+    def copy(self, source, path=None):
+        """Copies a file, to its place or to this path, and says so, unless it goes to the standard output. Raises `Faulty` if it can't be
+        copied; `Ended` if no other can either."""
         spot = read_spot(source.rpartition(":")[2])
         if spot.name is None:
             raise Faulty("is a directory: files are copied by their names")
-        path = os.path.join(self.target, spot.name) if os.path.isdir(self.target) else self.target
+        if path is None:
+            path = os.path.join(self.target, self.manner.host_of(spot.name)) if os.path.isdir(self.target) else self.target
         if path != STANDARD:
             self.check(path)
         found = self.session.stat(spot.typed(spot.name))
@@ -196,6 +235,8 @@ class Out:
             return
         with signals_held():
             self.copies[write(path, data)] = path, found.serial
+            if self.manner.keeps_dates:
+                date(path, found.written)
             self.count += 1
             say(f"{self.session.path}:{spot.typed(names.spelled(found.name))} -> {path}, {len(data)} bytes")
 
@@ -203,7 +244,7 @@ class Out:
         """Raises `Faulty` if this host file may not be written."""
         if any(is_same_file(path, pack) for pack in self.packs):
             raise Faulty(f"{path} is a pack file, which alto alone writes")
-        if os.path.lexists(path) and not self.is_forced:
+        if os.path.lexists(path) and not self.manner.is_forced:
             raise Faulty(f"{path} is there: -f overwrites it")
         with contextlib.suppress(OSError):
             if key_of(os.stat(path)) in self.copies:
@@ -248,6 +289,27 @@ def write(path, data):
             os.unlink(path)
         raise Faulty(f"{path}: {error.strerror}") from error
     return key
+
+
+def date_of(path):
+    """When a host file was changed, as a date on a pack. Raises `Faulty` if a pack can't tell it."""
+    try:
+        seconds = os.stat(path).st_mtime
+    except OSError as error:
+        raise Faulty(error.strerror) from error
+    moment = moment_of(seconds)
+    if moment is None:
+        years = 1970 + seconds / SECONDS_OF_YEAR
+        raise Faulty(f"its date, in about {years:.0f}, can't be kept: dates on a pack are of 1901 to 2037")
+    return moment
+
+
+def date(path, moment):
+    """Gives a host file a date on a pack."""
+    try:
+        os.utime(path, (seconds_of(moment), seconds_of(moment)))
+    except OSError as error:
+        raise Faulty(f"{path}: {error.strerror}") from error
 
 
 def key_of(status):

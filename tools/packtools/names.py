@@ -1,9 +1,15 @@
 """Stored names, as `A.` and `A!2.`, and how they are typed (docs/formats.md, Names)."""
+import fnmatch
+import os
 import re
 
 SHORTEST, LONGEST, LAST_VERSION = 2, 39, 65_534
 STORED = re.compile(r"([A-Za-z0-9+\-.$]+)(?:!([2-9]|[1-9][0-9]{1,4}))?\.")
 TYPED = re.compile(r"([^!]+)(?:!([1-9][0-9]{0,4})\.?)?")
+WILD = re.compile(r"[*?\[]")
+# what is spelled of a host name: bytes that can't stand, the sign itself, and a last dot
+SPELLED = re.compile(rb"[^A-Za-z0-9\-.$]|\.\Z")
+SIGNED = re.compile(rb"\+([0-9A-Fa-f]{2})")
 
 
 def stored(text):
@@ -47,6 +53,35 @@ def folded(name):
     """What two stored names have in common if they are the same; it also orders them."""
     base, version = parts(name)
     return base.lower(), version
+
+
+def newest(listed):
+    """How the names of a listing are typed without a version, which means the newest one: each base once."""
+    found = {}
+    for name in listed:
+        base, _ = parts(name)
+        found[base.lower()] = spelled(base)
+    return list(found.values())
+
+
+def is_wild(text):
+    """Whether a text has wildcards."""
+    return WILD.search(text) is not None
+
+
+def matching(pattern, listed):
+    """The newest names of a listing that a pattern matches as they are typed, without regard to case."""
+    return [name for name in newest(listed) if fnmatch.fnmatchcase(name.lower(), pattern.lower())]
+
+
+def spell(host):
+    """A host name, or a path in a folder, as a name on a pack: `+` and two digits for each byte that can't stand there."""
+    return SPELLED.sub(lambda it: b"+%02X" % it[0][0], os.fsencode(host)).decode()
+
+
+def unspell(text):
+    """The host name, or the path in a folder, that a name on a pack spells."""
+    return os.fsdecode(SIGNED.sub(lambda it: bytes([int(it[1], 16)]), text.encode()))
 
 
 def suffixed(name, number):

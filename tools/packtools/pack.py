@@ -1,4 +1,6 @@
 """Pack files, and what headers and labels say of each sector (docs/formats.md, Sectors and Pack files). No link is followed."""
+import contextlib
+import fcntl
 import os
 import struct
 import typing
@@ -15,6 +17,13 @@ VALUE = 20
 
 class Faulty(Exception):
     """A file that can't be read or written, or isn't a pack file, in words for the user."""
+
+
+class InUse(Faulty):
+    """A pack file that another process has open."""
+
+    def __init__(self, path):
+        super().__init__(f"{path}: another session has it open")
 
 
 class FullName(typing.NamedTuple):
@@ -120,12 +129,38 @@ def is_same_file(one, other):
         return False
 
 
-def read_file(path):
-    """The bytes of a pack file. No more are read than the largest has, and one."""
+def read_files(path, second=None, is_lent=False):
+    """The bytes of a pack's one file, or of two of one length, under a shared lock on all of them. Raises `InUse` if a program that may
+    write one has it open; `is_lent` says that it is a program of ours, which writes nothing while it waits for a line."""
+    paths = [path] if second is None else [path, second]
+    with contextlib.ExitStack() as opened:
+        files = [opened.enter_context(open_file(it, is_lent)) for it in paths]
+        contents = [read_file(*it) for it in zip(files, paths)]
+    if len({len(it) for it in contents}) > 1:
+        raise Faulty(f"{path} and {second}: unlike packs: {len(contents[0])} and {len(contents[1])} bytes")
+    return contents
+
+
+def open_file(path, is_lent):
+    """A pack file that is open for reading, with a shared lock unless it is lent."""
+    try:
+        file = open(path, "rb")
+    except OSError as error:
+        raise Faulty(f"{path}: {error.strerror}") from error
+    try:
+        if not is_lent:
+            fcntl.flock(file, fcntl.LOCK_SH | fcntl.LOCK_NB)
+        return file
+    except OSError as error:
+        file.close()
+        raise (InUse(path) if isinstance(error, BlockingIOError) else Faulty(f"{path}: {error.strerror}")) from None
+
+
+def read_file(file, path):
+    """The bytes of an open pack file. No more are read than the largest has, and one."""
     largest = MOST * CYLINDER * SECTOR
     try:
-        with open(path, "rb") as file:
-            data = file.read(min(largest, os.fstat(file.fileno()).st_size or largest) + 1)
+        data = file.read(min(largest, os.fstat(file.fileno()).st_size or largest) + 1)
     except OSError as error:
         raise Faulty(f"{path}: {error.strerror}") from error
     cylinders, rest = divmod(len(data), CYLINDER * SECTOR)
@@ -135,12 +170,11 @@ def read_file(path):
     return data
 
 
-def read_pack(path, second=None):
+def pack_of(files):
+    """The pack whose drives have these files."""
+    return Pack(len(files), b"".join(files))
+
+
+def read_pack(path, second=None, is_lent=False):
     """The pack of one file, or that of two of one length."""
-    data = read_file(path)
-    if second is None:
-        return Pack(1, data)
-    more = read_file(second)
-    if len(data) != len(more):
-        raise Faulty(f"{path} and {second}: unlike packs: {len(data)} and {len(more)} bytes")
-    return Pack(2, data + more)
+    return pack_of(read_files(path, second, is_lent))
