@@ -4,6 +4,7 @@ pub mod Rows
 pub mod Words
 mod Displayed
 mod Flushed
+mod Framing
 mod Formatted
 mod Scavenged
 pub mod Lengths

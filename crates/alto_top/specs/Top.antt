@@ -57,6 +57,11 @@ pub record AsksUsage (words : List (List ℕ)) : Type 0 where
   pub no_format : (n : ℕ) → AsksFormat words n → ⊥
   pub no_prepare : (n : ℕ) → AsksPrepare words n → ⊥
 
+-- words that write no header, whatever they ask for: neither `format` nor `prepare`
+pub record FormatsNothing (words : List (List ℕ)) : Type 0 where
+  pub no_format : (n : ℕ) → AsksFormat words n → ⊥
+  pub no_prepare : (n : ℕ) → AsksPrepare words n → ⊥
+
 -- what the words ask for
 abbrev pub AsksFor : List (List ℕ) → Asked → Type 0
 AsksFor words Boot = AsksBoot words

@@ -6,7 +6,8 @@
 //!
 //! To whoever starts it, for every machine that is modelled (`told`):
 //! 1. `boot` is a session of session_boot (`does` of `alto`). Whatever stands on the pack, a record is written only after a key was taken, and
-//!    a key is taken only of a pack with a clean first page of DiskDescriptor.
+//!    a key is taken only of a pack with a clean first page of DiskDescriptor. With all words but `format` and `prepare` sector 0, sectors
+//!    with a wrong header and all headers stay (`frame` of `alto`).
 //! And of `show`: at Done the shown bytes are the listing of what the pack shows, for every answer a prefix of it, and nothing is
 //! written (`shown` of `show_pack`).
 //! And of `scavenge`, on any pack whatever: at Done the pack is sound and clean, all its hints are true, it shows what it showed, and the report

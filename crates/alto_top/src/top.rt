@@ -1,12 +1,13 @@
 // The command line.
 ghost use Rattle.std.specs.Prelude.{◌≡◌, ◌≢◌, [], ◌∷◌, ◌⊎◌, codes, map, string_bytes, IsFalse, IsTrue};
 ghost use Rattle.disk_records.specs.Addresses.{disks_of};
+ghost use Rattle.disk_records.specs.Frames.{WritesUsable};
 ghost use Rattle.disk_records.specs.Tapes.{Grown, ShowAlone};
 ghost use Rattle.session_boot.specs.Boots.{AnswersBoot};
 ghost use Rattle.session_boot.specs.Faults.{HasStatusCause, NoFault, UnlessStopped};
 ghost use Rattle.alto_top.specs.Faults.{Concludes};
 ghost use Rattle.alto_top.specs.Showing.{KeepsKeys};
-ghost use Rattle.alto_top.specs.Top.{AnswersPrepare, AnswersTo, AnswersUsage, AsksFor, AsksShow, AsksUsage, BootedAlone, DoesAsAsked, MayWrite, PreparesOrUsage, ShowsUsage, Touches, pack_number};
+ghost use Rattle.alto_top.specs.Top.{AnswersPrepare, AnswersTo, AnswersUsage, AsksFor, AsksShow, AsksUsage, BootedAlone, DoesAsAsked, FormatsNothing, MayWrite, PreparesOrUsage, ShowsUsage, Touches, pack_number};
 
 use crate::flushing::after_display;
 use crate::formatting::format_pack;
@@ -138,6 +139,7 @@ fn boot_uncounted<M: Machine>(alloc: Global, moment: u32, machine: &mut M) -> St
     ensures cause { HasStatusCause (M.tape machine.old) (M.tape machine.new) result }
     ensures unfailed { UnlessStopped result (NoFault (M.tape machine.old) (M.tape machine.new)) }
     ensures handed_on { UnlessStopped result (M.handed_on machine.new) }
+    ensures frame { WritesUsable M.told (M.tape machine.old) (M.tape machine.new) }
     ensures grown { Grown (M.tape machine.old) (M.tape machine.new) }
 {
     let mut tally = Tally {
@@ -154,6 +156,7 @@ fn do_asked<M: Machine>(alloc: Global, words: &[String], moment: u32, machine: &
     ensures does { IsTrue M.told → DoesAsAsked (map string_bytes words.now) moment (M.tape machine.old) (M.tape machine.new) result }
     ensures answers { AnswersTo (map string_bytes words.now) (disks_of (M.tape machine.old).form) result }
     ensures ends { Concludes (M.handed_on machine.new) (M.tape machine.old) (M.tape machine.new) result }
+    ensures frame { FormatsNothing (map string_bytes words.now) → WritesUsable M.told (M.tape machine.old) (M.tape machine.new) }
     ensures touches { Touches (map string_bytes words.now) (M.tape machine.old) (M.tape machine.new) }
 {
     match asked_of(words) {
@@ -169,7 +172,8 @@ fn do_asked<M: Machine>(alloc: Global, words: &[String], moment: u32, machine: &
 /// Does what the words of a command line ask for on this machine. The words are `boot`, `show` or `scavenge` alone, or `format` or `prepare`
 /// and the pack's number, 1 to 65,535; with any others, and with `prepare` on one drive, `usage` is shown and nothing else happens. `moment`
 /// is the time now, in seconds since the start of 1901. The machine holds no record write back when it comes, as a new one doesn't. At the
-/// end it holds back neither a record write nor a byte that was shown, unless a fault or out of memory is answered.
+/// end it holds back neither a record write nor a byte that was shown, unless a fault or out of memory is answered. With all words but
+/// `format` and `prepare` sector 0, sectors with a wrong header and all headers stay, whatever stands on the pack.
 ///
 /// Done: the session was ended, the listing was shown, the pack was scavenged or formatted, or its second drive prepared. Usage: the
 /// words are others, or `prepare` on one drive, and `usage` was shown. NeedsScavenge: of `boot` alone; the pack isn't entered, or a
@@ -183,6 +187,7 @@ pub fn alto<M: Machine>(alloc: Global, words: &[String], moment: u32, machine: &
     ensures does { IsTrue M.told → DoesAsAsked (map string_bytes words.now) moment (M.tape machine.old) (M.tape machine.new) result }
     ensures answers { AnswersTo (map string_bytes words.now) (disks_of (M.tape machine.old).form) result }
     ensures ends { Concludes (M.handed_on machine.new × M.displayed machine.new) (M.tape machine.old) (M.tape machine.new) result }
+    ensures frame { FormatsNothing (map string_bytes words.now) → WritesUsable M.told (M.tape machine.old) (M.tape machine.new) }
     ensures touches { Touches (map string_bytes words.now) (M.tape machine.old) (M.tape machine.new) }
 {
     let answer = do_asked(alloc, words, moment, machine);

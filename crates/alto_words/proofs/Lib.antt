@@ -1,4 +1,5 @@
 pub mod Alike
+pub mod CharacterTable
 pub mod Digits
 pub mod Folding
 pub mod Forms

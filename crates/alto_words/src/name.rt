@@ -5,6 +5,7 @@ ghost use Rattle.std.specs.Cmp.Lexicographic.{pointwise, nat_list_eq_equiv};
 ghost use Rattle.std.specs.List.{list_all};
 ghost use Rattle.alto_words.specs.Names.{is_name_character, is_bare_name, is_stored_name, stored_in, name_in, bare_in, with_dot, without_dot, is_same_name, folded_cmp, suffixed, lost, base_of, version_of, with_version, after_mark, version_text};
 
+use crate::characters::is_name_character;
 use crate::text::{MAX_LENGTH, ShortText};
 use crate::version::{mark_in, version_in, version_mark};
 use itoa::Buffer;
@@ -265,8 +266,7 @@ fn without_dot(text: &[u8]) -> &[u8]
     text.strip_suffix(b".".as_slice()).unwrap_or(text)
 }
 
-/// Whether all of these may stand in a name. It goes over all of them, and has no branch on one:
-/// which comes next no processor can tell.
+/// Whether all of these may stand in a name. It goes over all of them, and has no branch on one.
 fn has_name_characters(text: &[u8]) -> bool
     ensures { result ≡ list_all is_name_character text.now }
 {
@@ -275,11 +275,4 @@ fn has_name_characters(text: &[u8]) -> bool
         all &= is_name_character(*c);
     }
     all
-}
-
-/// Whether this may stand in a name.
-fn is_name_character(c: u8) -> bool
-    ensures { result ≡ is_name_character c }
-{
-    c.is_ascii_alphanumeric() | (c == b'+') | (c == b'-') | (c == b'.') | (c == b'$')
 }

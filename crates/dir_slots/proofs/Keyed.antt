@@ -9,7 +9,7 @@ use Rattle.dir_slots.specs.Inside.{IsBareEntry, IsOtherAt, TellsOthers, further}
 use Rattle.dir_slots.specs.Judged.{AreKeyed, IsKeyed, MayPass, TellsByKey, key_of, size_here}
 use Rattle.dir_slots.specs.Others.{Passes}
 use Rattle.dir_slots.proofs.Entries.{entry_parts, entry_size}
-use Rattle.dir_slots.proofs.PassedOver.{entry_other, other_long, passes_both, passes_more, passes_start}
+use Rattle.dir_slots.proofs.PassedOver.{entry_other, other_long, passes_both, passes_more}
 
 -- ---- the entry of a bare name
 pub bare_long : (words : List ℕ) → IsBareEntry words → (8 ≤ length words) × (length words ≤ 26)
@@ -45,9 +45,6 @@ sized words n within bare =
 pub sized_here : (words : List ℕ) (key : ℕ) → IsKeyed words key → (8 ≤ size_here words) × (size_here words ≤ 26)
 sized_here words key keyed = let s = (sized words (size_here words) keyed.within keyed.entry).1 in (s.least, s.most)
 
-pub first_here : (words : List ℕ) (key : ℕ) → IsKeyed words key → word words 0 ≡ 1024 + size_here words
-first_here words key keyed = (sized words (size_here words) keyed.within keyed.entry).1.first
-
 -- one that was judged
 pub keyed_by : (words : List ℕ) (n : ℕ) → n ≤ length words → IsBareEntry (take n words) → IsKeyed words (key_of (take n words))
 keyed_by words n within bare =
@@ -57,9 +54,6 @@ keyed_by words n within bare =
       entry = subst (λ (k : ℕ). IsBareEntry (take k words)) (sym is) bare;
       is = ap (λ (k : ℕ). key_of (take k words)) is;
     }
-
-pub key_fits : (words : List ℕ) → IsBareEntry words → word words 6 / 256 ≤ 39
-key_fits words bare = omega (arith, bare.size, bare_long words bare)
 
 -- ---- the same in fewer words, and in more
 pub keyed_front : (words : List ℕ) (key m : ℕ) → size_here words ≤ m → IsKeyed words key → IsKeyed (take m words) key
@@ -219,9 +213,6 @@ keyed_other p words key wanted tells differs keyed =
     })
 
 -- ---- a walk over them
-pub pass_none : (p : Passing) (page : List ℕ) (from : ℕ) → MayPass p page from from
-pass_none p page from = λ given walk none going walked. passes_start p (given ++ take from page) walk from walked
-
 pub pass_one : (p : Passing) (page : List ℕ) (from at n : ℕ) → from ≤ at → at ≤ length page → MayPass p page from at → IsOtherAt p (take (length page - at) (drop at page)) n → MayPass p page from (at + n)
 pass_one p page from at n on within before o = λ given walk none going walked. passes_more p page from at n given walk on within none going (before given walk none going walked) o
 

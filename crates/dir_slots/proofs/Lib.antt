@@ -6,7 +6,6 @@ pub mod Slots
 pub mod Longest
 pub mod NameWords
 pub mod Writing
-pub mod Characters
 pub mod PassedOver
 pub mod Endings
 pub mod Rooms

@@ -2,7 +2,7 @@
 ghost use Rattle.std.specs.Prelude.{◌≡◌, ℕ, ◌+◌, ◌-◌, ◌<◌, ◌≤◌, ◌/◌, ◌==◌, ◌++◌, true, false, List, ◌∷◌, length, take, IfSome, Option};
 ghost use Rattle.std.specs.List.{list_all};
 ghost use Rattle.alto_words.specs.Fid.{is_full_name};
-ghost use Rattle.alto_words.specs.Names.{fold_case, is_name_character, is_same_name};
+ghost use Rattle.alto_words.specs.Names.{fold_case, is_same_name};
 ghost use Rattle.disk_records.specs.Words.{word};
 ghost use Rattle.pack_model.specs.reading.Slots.{entry_length, slot_bytes, slot_fid, slot_name};
 ghost use Rattle.dir_slots.specs.Inside.{IsBareEntry, IsBareSpelled, IsOtherAt, IsOtherEntry, TellsOthers, further, is_pair};
@@ -11,7 +11,7 @@ ghost use Rattle.dir_slots.specs.Walks.{Walked, Walking};
 
 use crate::codec::{ENTRY_TYPE, MIN_ENTRY_WORDS, NAME, VERSION, ZERO, fid_of};
 use crate::slot::MAX_ENTRY_WORDS;
-use alto_words::Name;
+use alto_words::{Name, is_name_character};
 
 /// What a scan need not be handed.
 #[derive(Clone, Copy, Debug)]
@@ -34,29 +34,6 @@ const MAX_VERSION: u32 = 0xFFFE;
 
 /// What ends a name.
 const DOT: u16 = 46;
-
-/// Whether each byte may stand in a bare name.
-const CHARACTERS: [bool; 256] = [
-    false, false, false, false, false, false, false, false, false, false, false, false, false,
-    false, false, false, false, false, false, false, false, false, false, false, false, false,
-    false, false, false, false, false, false, false, false, false, false, true, false, false,
-    false, false, false, false, true, false, true, true, false, true, true, true, true, true, true,
-    true, true, true, true, false, false, false, false, false, false, false, true, true, true,
-    true, true, true, true, true, true, true, true, true, true, true, true, true, true, true, true,
-    true, true, true, true, true, true, true, false, false, false, false, false, false, true, true,
-    true, true, true, true, true, true, true, true, true, true, true, true, true, true, true, true,
-    true, true, true, true, true, true, true, true, false, false, false, false, false, false,
-    false, false, false, false, false, false, false, false, false, false, false, false, false,
-    false, false, false, false, false, false, false, false, false, false, false, false, false,
-    false, false, false, false, false, false, false, false, false, false, false, false, false,
-    false, false, false, false, false, false, false, false, false, false, false, false, false,
-    false, false, false, false, false, false, false, false, false, false, false, false, false,
-    false, false, false, false, false, false, false, false, false, false, false, false, false,
-    false, false, false, false, false, false, false, false, false, false, false, false, false,
-    false, false, false, false, false, false, false, false, false, false, false, false, false,
-    false, false, false, false, false, false, false, false, false, false, false, false, false,
-    false, false, false, false, false, false, false, false, false, false,
-];
 
 /// What tells most entries from those of a name, in whatever case: the low five bits of three bytes of its entry's last two words. The
 /// case changes none of these bits. They are worked out once, and most names of a directory differ in them.
@@ -219,7 +196,7 @@ fn spells_bare_name(words: &[u16]) -> bool
     if (first / 512) as usize != end {
         return false;
     }
-    let begun = is_character((first % 256) as u8);
+    let begun = is_name_character((first % 256) as u8);
     if !are_pairs(&words[1..end]) {
         return false;
     }
@@ -230,7 +207,7 @@ fn spells_bare_name(words: &[u16]) -> bool
     if last % 256 != DOT {
         return false;
     }
-    begun & is_character((last / 256) as u8)
+    begun & is_name_character((last / 256) as u8)
 }
 
 /// Whether both bytes of each of these words may stand in a bare name.
@@ -244,14 +221,7 @@ fn are_pairs(words: &[u16]) -> bool
 fn is_pair(word: u16) -> bool
     ensures { result ≡ is_pair word }
 {
-    is_character((word / 256) as u8) & is_character((word % 256) as u8)
-}
-
-/// Whether this may stand in a bare name.
-fn is_character(c: u8) -> bool
-    ensures { result ≡ is_name_character c }
-{
-    CHARACTERS[c as usize]
+    is_name_character((word / 256) as u8) & is_name_character((word % 256) as u8)
 }
 
 /// Whether an entry has another name than the one with this ending. False doesn't rule it out.

@@ -13,6 +13,7 @@ mod OthersTrue
 mod Paging
 mod PlaceFound
 mod Quickly
+mod Reading
 mod RoomSeeking
 mod RoomSizes
 mod Rows

@@ -1,10 +1,10 @@
 -- What calls that read a directory find, by the slots of its words.
-use Rattle.std.specs.Prelude.{◌≡◌, ◌⊎◌, ℕ, ◌+◌, ◌≤◌, Bool, List, map, Some, None}
+use Rattle.std.specs.Prelude.{◌≡◌, ◌⊎◌, ℕ, zero, suc, ◌+◌, ◌≤◌, Bool, List, map, Some, None}
 use Rattle.alto_words.specs.declared.fid.Fid.{Fid}
 use Rattle.alto_words.specs.declared.wanted.Wanted.{Wanted}
 use Rattle.alto_words.specs.declared.wanted.Wanted.TheVariants.{Newest}
 use Rattle.disk_records.specs.declared.records.Place.TheVariants.{Entry}
-use Rattle.disk_records.specs.Packs.{Pack}
+use Rattle.disk_records.specs.Packs.{Pack, carried}
 use Rattle.disk_records.specs.Tapes.{Taped}
 use Rattle.dir_slots.specs.declared.slot.Slot.{Slot}
 use Rattle.dir_slots.specs.Items.{address_of, addresses_in, items_of}
@@ -50,6 +50,18 @@ pub record AreSlots (p : Pack) (d : Fid) (found : List Slot) : Type 0 where
 -- one a data page and one more, unless a note was refused
 abbrev pub IsQuick : Pack → Fid → Cached → Cached → Taped → Taped → Type 0
 IsQuick p d before now old new = (new.runs ≤ old.runs + (page_of_byte (file_length p d) + 1)) ⊎ Refused before now
+
+-- with any hints: n and 54 for page n of a directory, from its leader, which is page 0, up to page k - 1
+abbrev pub page_runs : ℕ → ℕ
+page_runs zero = 0
+page_runs (suc n) = page_runs n + (n + 54)
+
+-- The pages of the directory up to this one are carried by sectors, and no more sector commands were taken than n and 54 for each of its
+-- pages n, from its leader up to that page.
+pub record IsReadByPages (p : Pack) (d : Fid) (old new : Taped) : Type 0 where
+  pub last : ℕ
+  pub carries : (n : ℕ) → 1 ≤ n → n ≤ last → (at : ℕ) × (carried p at ≡ Some (page_number d n))
+  pub runs : new.runs ≤ old.runs + page_runs (last + 1)
 
 -- ---- the cache
 -- a directory's last page has this number: that of the page its end is in, or the greatest there is

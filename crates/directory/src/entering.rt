@@ -243,7 +243,8 @@ fn write_entry<D: Disk>(
 /// free slot. The file has to live and to have no entry, `leader_at` is the virtual address of its leader's sector, and a directory is entered
 /// in the main directory alone. There are one to three record writes: the first makes the room's free slots one, where they are several; the
 /// next is that of the page after the room's first, where words come to lie there; the last is that of the room's own page, which commits. The
-/// pages are sought as by `locate`, before the first of them.
+/// pages are sought as by `locate`, before the first of them. On any pack, and whatever the answer is, each record write is in a page of the
+/// directory.
 ///
 /// NameTaken: an entry has the name, in whatever case of its letters. NoSlot: no free slots in a row have room for the entry, and no entry has
 /// the name. File: Misled where the address that the directory is named with, or a next link of it, misleads, and where the machine isn't

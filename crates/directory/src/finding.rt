@@ -12,7 +12,7 @@ ghost use Rattle.page_seeking.specs.Refs.{FileIsRooted, IfMisled, IsOwnHint, Mis
 ghost use Rattle.page_seeking.specs.Seeking.{KeepsHandy, Quick};
 ghost use Rattle.directory.specs.Asked.{DirIsFound, DirStands};
 ghost use Rattle.directory.specs.Bounds.{most_words};
-ghost use Rattle.directory.specs.Found.{IsQuick, ListsLastPage};
+ghost use Rattle.directory.specs.Found.{IsQuick, IsReadByPages, ListsLastPage};
 ghost use Rattle.directory.specs.Inside.{found_at};
 
 use crate::entry::EntryFound;
@@ -116,6 +116,7 @@ pub(crate) fn find_entry<D: Disk>(
     ensures cause { HasCause cause_of_length (D.tape disk.old) (D.tape disk.new) result }
     ensures want { IsTrue D.told → IsErrOf result FileError.Memory → ⊥ }
     ensures looks { Looks D.told (65588 * 65535) (D.tape disk.old) (D.tape disk.new) }
+    ensures pages { IsTrue D.told → IsReadByPages (pack (D.tape disk.old)) dir.now.fid (D.tape disk.old) (D.tape disk.new) }
     ensures quick { IsTrue D.told → Quick (pack (D.tape disk.old)) dir.now.fid hints.old.cache → OnOk result (IsQuick (pack (D.tape disk.old)) dir.now.fid hints.old.cache hints.new.cache (D.tape disk.old) (D.tape disk.new)) }
     ensures table { hints.new.table ≡ hints.old.table }
     ensures listed { IsTrue D.told → DirIsFound (pack (D.tape disk.old)) dir.now → OnOk result (ListsLastPage D.told (pack (D.tape disk.old)) dir.now.fid hints.old.cache hints.new.cache) }

@@ -158,7 +158,8 @@ fn free_entry<D: Disk>(
 
 /// Takes the entry of this name out of a directory, in whatever case of its letters: its slot becomes a free one, by one value write, which
 /// commits. The file itself stays, without a name. The entry must not be that of a system file. Its slot is found as by `lookup`, and the
-/// page in which it begins is located before the record write.
+/// page in which it begins is located before the record write. On any pack, and whatever the answer is, the record write is in a page of the
+/// directory.
 ///
 /// NoSuchName: the directory has no such entry. File: Misled where the address that the directory is named with, or a next link of it,
 /// misleads, and where the machine isn't modelled also where the sector in which this call found the page no longer carries it; DiskFault
@@ -200,8 +201,8 @@ pub fn leave<D: Disk>(
 }
 
 /// Makes the slot of the entry of this name a free one, as the end of a drop: `drop_file` of file_pages released the file's sectors, and
-/// counted the drop. It is done as `leave` does it, and nothing is counted. On the pack the entry's file doesn't live, so that the pack
-/// needn't be tidy.
+/// counted the drop. It is done as `leave` does it, in a page of the directory, and nothing is counted. On the pack the entry's file doesn't
+/// live, so that the pack needn't be tidy.
 ///
 /// The errors are those of `leave`. Misled never comes where links are true and the pack is whole, and tidy except for the entry of one file
 /// `f`, the one that was dropped (`TidyBut`): that is what `drop_file` at Ok makes of a whole and tidy pack with true links.

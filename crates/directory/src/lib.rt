@@ -4,16 +4,18 @@
 //! they are written and come, and laws of look-up and of calls. Come here to find a file by its name, to see which slots a directory has,
 //! to enter a file in one or take its entry out, or to widen one. A directory is named by a `FileRef`, as any file. To the layers above, on
 //! every machine:
-//! 1. An error has its cause (`cause`): a fault comes only where its count rose, and Beyond never. The table of busy bits stays (`table`),
-//!    or at Ok of a widening keeps its length (`sized`), and the count of notes that were refused never falls (`refused`).
+//! 1. A fault comes only where its count rose, at each other answer the count is as it was, and Beyond never comes (`cause`). The table of
+//!    busy bits stays (`table`), or at Ok of a widening keeps its length (`sized`), and the count of notes that were refused never falls
+//!    (`refused`).
 //! 2. Misled names a hint of the directory: the address that it is named with, or a next link of it (`hint`). A call that writes may also name
 //!    the sector in which it found a page itself, or the one that a widening was given (`given`); where the machine is modelled, an entering
 //!    or a leaving doesn't.
 //!
 //! And where the machine is modelled, with any words in hints:
-//! 3. A call that reads writes nothing (`looks`), and is out of memory only if it takes an allocator (`want`). An entering or a leaving
+//! 3. A call that reads writes nothing (`looks`), takes no more sector commands than n and 54 for each page n of the directory, from its
+//!    leader on (`pages`), and is out of memory only if it takes an allocator (`want`). An entering or a leaving
 //!    writes no header, and only in sectors that carried a page of the directory as the call began, whatever it answers; a widening only in
-//!    that of its last page and in free ones (`frame`), and at Ok the sector that it was given was free (`was_free`).
+//!    one whose page ends the directory and in free ones (`frame`), and at Ok the sector that it was given was free (`was_free`).
 //! 4. Hints that were handy with true links are so on the pack afterwards (`handy`): after a widening at Ok, and unless a note was refused.
 //!    Where they are handy for the directory, few sector commands are taken at Ok, by a call that reads one for each data page and one more,
 //!    unless a note was refused (`quick`); and as few by a look-up of a name that is absent (`quick_absent`).

@@ -8,7 +8,7 @@ ghost use Rattle.page_seeking.specs.Refs.{FileIsRooted, IsOwnHint, MisledBy};
 ghost use Rattle.page_seeking.specs.Seeking.{KeepsHandy, Quick};
 ghost use Rattle.directory.specs.Asked.{DirIsFound, DirStands};
 ghost use Rattle.directory.specs.Errors.{IfMisled, cause_of, out_of_memory};
-ghost use Rattle.directory.specs.Found.{IsAbsent, IsLookedUp, IsQuick, ListsLastPage, file_of};
+ghost use Rattle.directory.specs.Found.{IsAbsent, IsLookedUp, IsQuick, IsReadByPages, ListsLastPage, file_of};
 ghost use Rattle.directory.specs.Inside.{found_at};
 
 use crate::entry::EntryFound;
@@ -63,6 +63,7 @@ pub fn lookup<D: Disk>(
 
     // Nothing is written; with true links and handy hints there is one sector command a data page and one more.
     ensures looks { Looks D.told (65588 * 65535) (D.tape disk.old) (D.tape disk.new) }
+    ensures pages { IsTrue D.told → IsReadByPages (pack (D.tape disk.old)) dir.now.fid (D.tape disk.old) (D.tape disk.new) }
     ensures quick { IsTrue D.told → Quick (pack (D.tape disk.old)) dir.now.fid hints.old.cache → OnOk result (IsQuick (pack (D.tape disk.old)) dir.now.fid hints.old.cache hints.new.cache (D.tape disk.old) (D.tape disk.new)) }
     ensures quick_absent { IsTrue D.told → Quick (pack (D.tape disk.old)) dir.now.fid hints.old.cache → IsErrOf result DirError.NoSuchName → IsQuick (pack (D.tape disk.old)) dir.now.fid hints.old.cache hints.new.cache (D.tape disk.old) (D.tape disk.new) }
 

@@ -10,7 +10,7 @@ ghost use Rattle.page_seeking.specs.Refs.{IsOwnHint, MisledBy};
 ghost use Rattle.page_seeking.specs.Seeking.{KeepsHandy, Quick};
 ghost use Rattle.directory.specs.Asked.{DirIsFound, DirStands};
 ghost use Rattle.directory.specs.Errors.{IfMisled, cause_of, out_of_memory};
-ghost use Rattle.directory.specs.Found.{IsQuick, ListsLastPage};
+ghost use Rattle.directory.specs.Found.{IsQuick, IsReadByPages, ListsLastPage};
 
 use crate::walk::{Visit, visit_slots};
 use crate::{DirError, FileRef};
@@ -82,6 +82,7 @@ pub fn room<D: Disk>(
     ensures cause { HasCause (cause_of never never never) (D.tape disk.old) (D.tape disk.new) result }
     ensures want { IsTrue D.told → IsErrOf result out_of_memory → ⊥ }
     ensures looks { Looks D.told (65588 * 65535) (D.tape disk.old) (D.tape disk.new) }
+    ensures pages { IsTrue D.told → IsReadByPages (pack (D.tape disk.old)) dir.now.fid (D.tape disk.old) (D.tape disk.new) }
     ensures quick { IsTrue D.told → Quick (pack (D.tape disk.old)) dir.now.fid hints.old.cache → OnOk result (IsQuick (pack (D.tape disk.old)) dir.now.fid hints.old.cache hints.new.cache (D.tape disk.old) (D.tape disk.new)) }
     ensures table { hints.new.table ≡ hints.old.table }
     ensures listed { IsTrue D.told → DirIsFound (pack (D.tape disk.old)) dir.now → OnOk result (ListsLastPage D.told (pack (D.tape disk.old)) dir.now.fid hints.old.cache hints.new.cache) }

@@ -7,7 +7,7 @@ ghost use Rattle.page_seeking.specs.Refs.{IsOwnHint, MisledBy};
 ghost use Rattle.page_seeking.specs.Seeking.{KeepsHandy, Quick};
 ghost use Rattle.directory.specs.Asked.{DirIsFound, DirStands};
 ghost use Rattle.directory.specs.Errors.{IfListMisled, cause_of_list};
-ghost use Rattle.directory.specs.Found.{AreSlots, IsQuick, ListsLastPage};
+ghost use Rattle.directory.specs.Found.{AreSlots, IsQuick, IsReadByPages, ListsLastPage};
 
 use crate::walk::{Visit, visit_slots};
 use crate::{FileRef, ListError};
@@ -58,6 +58,7 @@ pub fn list<D: Disk>(
     ensures true_links { IsTrue D.told → DirStands (pack (D.tape disk.old)) dir.now → LinksTrue (pack (D.tape disk.old)) → IfListMisled result (λ place at wanted found. ⊥) }
     ensures cause { HasCause cause_of_list (D.tape disk.old) (D.tape disk.new) result }
     ensures looks { Looks D.told (65588 * 65535) (D.tape disk.old) (D.tape disk.new) }
+    ensures pages { IsTrue D.told → IsReadByPages (pack (D.tape disk.old)) dir.now.fid (D.tape disk.old) (D.tape disk.new) }
     ensures quick { IsTrue D.told → Quick (pack (D.tape disk.old)) dir.now.fid hints.old.cache → OnOk result (IsQuick (pack (D.tape disk.old)) dir.now.fid hints.old.cache hints.new.cache (D.tape disk.old) (D.tape disk.new)) }
     ensures table { hints.new.table ≡ hints.old.table }
     ensures listed { IsTrue D.told → DirIsFound (pack (D.tape disk.old)) dir.now → OnOk result (ListsLastPage D.told (pack (D.tape disk.old)) dir.now.fid hints.old.cache hints.new.cache) }

@@ -41,8 +41,8 @@ fn free_page() -> [u8; 512]
 /// File: Misled where the address that the directory is named with, or a next link of it, misleads, or `fresh` is no usable sector's
 /// address, or, where the machine isn't modelled, its sector isn't free; DiskFault where the device failed; Memory where no memory was left
 /// for a record write. After each of these a prefix of the record writes was done, and the table is as before; what `buf` holds is open. No
-/// other error comes. On any pack, and whatever the answer is, each record write is in a sector that was free or in the page that was the
-/// directory's last; so where the sector at `fresh` isn't free, it stays, unless it carries that page, and the answer isn't Ok.
+/// other error comes. On any pack, and whatever the answer is, each record write is in a sector that was free or in a page that ends the
+/// directory; so where the sector at `fresh` isn't free, it stays, unless it carries such a page, and the answer isn't Ok.
 pub fn widen<D: Disk>(
     disk: &mut D,
     hints: &mut Hints,
@@ -64,8 +64,8 @@ pub fn widen<D: Disk>(
     ensures alone { DiskAlone (D.tape disk.old) (D.tape disk.new) }
     ensures quick { IsTrue D.told → DirStands (pack (D.tape disk.old)) dir.now → MayBeWidened (pack (D.tape disk.old)) fresh → Quick (pack (D.tape disk.old)) dir.now.fid hints.old.cache → LastNamed (pack (D.tape disk.old)) dir.now.fid → OnOk result ((D.tape disk.new).runs ≤ (D.tape disk.old).runs + 8) }
 
-    // Where it writes, on every modelled pack: in a free sector or in the directory's last page. A sector that was given as free and isn't stays,
-    // unless it carries that page.
+    // Where it writes, on every modelled pack: in a free sector or in a page that ends the directory. A sector that was given as free and isn't
+    // stays, unless it carries such a page.
     ensures frame { IsTrue D.told → WritesIn (IsEndOrFree dir.now.fid (pack (D.tape disk.old))) (added (D.tape disk.old) (D.tape disk.new)) }
     ensures was_free { IsTrue D.told → OnOk result (IsFreeSector (pack (D.tape disk.old)) fresh) }
 

@@ -12,8 +12,8 @@
 //! 4. A pack file belongs to one process that may write it, or to some that read it alone, as long as their machines are there (`reach`,
 //!    `reach_to_read`, `create`): whoever comes too late is told InUse, and whoever takes no lock isn't hindered. That a machine over files
 //!    that are there has their locks is a clause (`locked`); what a lock does is the outside's, and tested.
-//! 5. `FileMachine` meets what disk_records asks of every machine: a fault is answered only where the count of its own device rose,
-//!    and a mismatch only for a record that was to be checked.
+//! 5. `FileMachine` meets what disk_records asks of every machine: a fault is answered only where the count of its own device rose, at
+//!    each other answer that count is as it was, and a mismatch comes only for a record that was to be checked.
 //!
 //! `FileMachine` is the edge to the outside. What a real file, terminal or pipe does is trusted and not proved, so it isn't modelled:
 //! no clause speaks of what it reads or shows. Proved are which drive's file a command goes to and where in it (`drive_of`), that the

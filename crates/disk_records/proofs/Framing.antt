@@ -9,7 +9,7 @@ use Rattle.disk_records.specs.declared.records.Sector.{Sector}
 use Rattle.disk_records.specs.declared.shape.Shape.{Shape}
 use Rattle.disk_records.specs.Labels.{tag, is_free, page_of}
 use Rattle.disk_records.specs.Events.{IsFirstOf}
-use Rattle.disk_records.specs.Frames.{WritesIn, WritesUsable, IsFreeSector, IsPageOf, IsOwnOrFree, IsUsableSector, own_page, free_sector}
+use Rattle.disk_records.specs.Frames.{WritesIn, WritesUsable, IsFreeSector, IsPageOf, IsUsableSector}
 use Rattle.disk_records.specs.Packs.{Pack, after, carried, is_free_at, is_usable, sector_at, no_sector, with_part}
 use Rattle.disk_records.specs.Tapes.{Taped, DiskAlone, Grown, Looks, added, pack}
 use Rattle.disk_records.proofs.Growing.{added-twice, nothing_added, pack-after}
@@ -53,10 +53,6 @@ free_by_sector p q at shape same free = sym (same_free p q at shape same) ∙ fr
 
 pub page_by_sector : (f : Fid) → IsBySector (IsPageOf f)
 page_by_sector f p q at shape same page = record { number = page.number; carries = sym (same_carried p q at shape same) ∙ page.carries }
-
-pub own_or_free_by_sector : (f : Fid) → IsBySector (IsOwnOrFree f)
-own_or_free_by_sector f p q at shape same (own_page page) = own_page (page_by_sector f p q at shape same page)
-own_or_free_by_sector f p q at shape same (free_sector is) = free_sector (free_by_sector p q at shape same is)
 
 -- ---- what stays
 -- a sector that isn't such a one, whole

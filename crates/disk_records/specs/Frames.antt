@@ -26,11 +26,6 @@ pub record IsPageOf (f : Fid) (p : Pack) (at : ℕ) : Type 0 where
   pub number : ℕ
   pub carries : carried p at ≡ Some (record { fid = f; number = number })
 
--- it is one or the other
-pub data IsOwnOrFree (f : Fid) (p : Pack) (at : ℕ) : Type 0 where
-  own_page : IsPageOf f p at → IsOwnOrFree f p at
-  free_sector : IsFreeSector p at → IsOwnOrFree f p at
-
 -- ---- what a call leaves alone
 -- Where the machine is modelled sector 0 and each sector with a wrong header keep all of their records, and every other sector its header.
 abbrev pub WritesUsable : Bool → Taped → Taped → Type 0

@@ -1,5 +1,5 @@
 -- The end of a session as a turn: by what closing answers.
-use Rattle.std.proofs.Common.{◌≡◌, ℕ, suc, ◌-◌, ◌+◌, ◌≤◌, ◌==◌, ◌&&◌, Bool, true, false, cond, List, [], ◌∷◌, nat_lt, None, Ok, Err, refl, sym, subst, ap, arith, ◌∙◌, length, get_or, All, Some, ◌<◌, ◌*◌}
+use Rattle.std.proofs.Common.{◌≡◌, map, ℕ, suc, ◌-◌, ◌+◌, ◌≤◌, ◌==◌, ◌&&◌, Bool, true, false, cond, List, [], ◌∷◌, nat_lt, None, Ok, Err, refl, sym, subst, ap, arith, ◌∙◌, length, get_or, All, Some, ◌<◌, ◌*◌}
 use Rattle.std.proofs.lemmas.Bool.{le-ltb}
 use Rattle.std.proofs.lemmas.List.Elements.{All-from_get_or, All-get_or}
 use Rattle.std.proofs.lemmas.Option.{slice_get-get_or}
@@ -16,8 +16,8 @@ use Rattle.exec_words.specs.declared.line.Line.TheVariants as line
 use Rattle.exec_words.specs.declared.reply.Refusal.TheVariants as refusal
 use Rattle.exec_words.specs.declared.reply.Reply.{Reply}
 use Rattle.exec_words.specs.declared.reply.Reply.TheVariants as reply
-use Rattle.laws_hint.specs.ClosingLaws.{closing_writes}
-use Rattle.laws_hint.proofs.truth.Laws.{truth_at_closing}
+use Rattle.laws_steps.specs.laws_hint.specs.ClosingLaws.{closing_writes}
+use Rattle.laws_steps.specs.laws_hint.proofs.truth.Laws.{truth_at_closing}
 use Rattle.directory.specs.laws_line.proofs.ending.Laws.{ending_on_a_sound_pack}
 use Rattle.directory.specs.laws_line.proofs.fits.Laws.{fitting_descriptor_may_close}
 use Rattle.directory.specs.laws_line.specs.EndLaws.{EndsSession, idle}
@@ -45,7 +45,7 @@ use Rattle.pack_model.specs.states.Sound.{mark_clean, mark_of}
 use Rattle.session_model.specs.Answering.{Answered, IsAnswer, IsByModel, TakesTurn, plain_reply, reply_unless}
 use Rattle.session_model.specs.Bounds.{RunsWithin}
 use Rattle.session_model.specs.Effects.{effect, ending_ops}
-use Rattle.session_model.specs.Keeping.{Formed, Keeping, Kept}
+use Rattle.session_model.specs.Keeping.{Formed, Keeping, Kept, stream_of}
 use Rattle.session_model.specs.Refusals.{by_line, refusal_of, when}
 use Rattle.session_model.specs.Replies.{refusal as refusal_to, unless_refused}
 use Rattle.session_model.specs.Streams.{closing_ops}
@@ -66,7 +66,7 @@ by_need false needed unneeded = unneeded refl
 apart : {b : Bool} → b ≡ true → b ≡ false → ⊥
 apart a c = cc
 
--- ---- what ends the session: it none refused, and has no operations where no stream is open
+-- ---- what ends the session: it isn't refused, and has no operations where no stream is open
 pub record AtEnd (s : State) (cue : Cue) : Type 0 where
   pub over : closes s cue ≡ true
   pub asks : asks_scavenge s cue ≡ false
@@ -265,7 +265,7 @@ stopped_tally stop.Memory k = refl
 
 -- a session that is right for a state has no stream open there, and is of some level
 pub no_streams : (p : Pack) (one : Session) (s : State) → Keeping p (kept one) s → s.world.streams ≡ []
-no_streams p one s keeping = ap (λ w. w.streams) keeping.world
+no_streams p one s keeping = ap (λ w. w.streams) keeping.world ∙ ap (map stream_of) one.streams.unopened
 
 pub some_level : (p : Pack) (one : Session) (s : State) (form : Shape) → Formed form (kept one) → Keeping p (kept one) s → 1 ≤ s.world.level
 some_level p one s form formed keeping = subst (λ n. 1 ≤ n) (sym (ap (λ w. w.level) keeping.world)) formed.memory.least
@@ -283,7 +283,7 @@ limit_after one two same done = by_need one.need (λ is. ap (λ (s : Session). s
 
 pub stopped_formed : (form : Shape) (x : Stop) (k : Kept) → Formed form k → Formed form (kept_stopped x k)
 stopped_formed form (stop.Refused r) k h = h
-stopped_formed form (stop.Misled place at wanted found) k h = record { shape = h.shape; bits = h.bits; memory = h.memory; streams = h.streams; apart = h.apart }
+stopped_formed form (stop.Misled place at wanted found) k h = record { shape = h.shape; bits = h.bits; memory = h.memory; streams = λ i d less. absurd (omega (arith, less)); apart = tt }
 stopped_formed form stop.DiskFault k h = h
 stopped_formed form stop.Memory k h = h
 

@@ -73,7 +73,7 @@ looks_about_within most within about = record { looks = looks_within most about.
 -- what is kept after a call that looked
 pub same_but_looked : (old new : Taped) {one two : Session} → Looked one two → pack new ≡ pack old → SameBut old new (kept one) (kept two)
 same_but_looked old new {one} {two} looked same = subst (λ s. SameBut old new (kept one) (kept s)) (sym looked.same) (record {
-  world = record { moment = refl; level = refl; memory = refl; before = refl; streams = refl; need = refl };
+  world = record { moment = refl; level = refl; memory = refl; streams = refl; need = refl };
   shape = refl;
   last = refl;
   mark = refl;
@@ -95,9 +95,6 @@ soon_twice few more most x y z {a} {b} {c} within one two first next = elim firs
   | inl runs ↦ elim next [ inl later ↦ inl (omega (arith, runs, later, within)) | inr rose ↦ inr (refused_later a.hints.cache b.hints.cache c.hints.cache one.refused rose) ]
   | inr rose ↦ inr (refused_sooner a.hints.cache b.hints.cache c.hints.cache two.refused rose)
 ]
-
-pub soon_within : (few most : ℕ) (x y : Taped) (a b : Session) → few ≤ most → IsSoon few x y a b → IsSoon most x y a b
-soon_within few most x y a b within soon = elim soon [ inl runs ↦ inl (omega (arith, runs, within)) | inr rose ↦ inr rose ]
 
 -- ---- what they ask for
 pub all_first : {p : Pack} {busy : List Bool} (s : Session) (f : Fid) (more : List Fid) → AllHandy p busy (all_listed s.hints.cache) (f ∷ more) → AllHandy p busy (all_listed s.hints.cache) (f ∷ [])

@@ -42,13 +42,6 @@ root_is (Some x) e = let is = root_test x e in λ i. Some (record { fid = is.0 i
 pub root_carried : (p : Pack) → is_root (carried p 1) ≡ true → carried p 1 ≡ Some (leader_page sys_dir)
 root_carried p e = root_is (carried p 1) e
 
-pub no_root_there : (c : Option Page) → (c ≡ Some (leader_page sys_dir) → ⊥) → is_root c ≡ false
-no_root_there c h = by (is_root c) refl
-  where
-    by : (b : Bool) → is_root c ≡ b → is_root c ≡ false
-    by true e = absurd (h (root_is c e))
-    by false e = e
-
 -- ---- SysDir, where it is there
 pub root_there : (p : Pack) → EachOnce (sights p) → is_root (carried p 1) ≡ true → DirIsFound p root_ref
 root_there p once root = record {

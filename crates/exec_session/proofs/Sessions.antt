@@ -1,5 +1,5 @@
 -- A session as it begins, and as it goes on after a scavenge, by what opening the pack answers.
-use Rattle.std.proofs.Common.{◌≡◌, ℕ, ◌==◌, Bool, true, false, All, List, [], length, Option, Some, None, refl, sym, subst, ◌∙◌, ap, arith, eq-eqb}
+use Rattle.std.proofs.Common.{◌≡◌, ℕ, ◌==◌, Bool, true, false, All, List, [], length, map, Option, Some, None, refl, sym, subst, ◌∙◌, ap, arith, eq-eqb}
 use Rattle.disk_records.specs.Addresses.{pages_of}
 use Rattle.disk_records.specs.Packs.{AreFormed, Pack}
 use Rattle.disk_records.specs.declared.shape.Shape.{Shape}
@@ -10,8 +10,8 @@ use Rattle.hint_cache.specs.declared.hints.Hints.{Hints}
 use Rattle.disk_descriptor.specs.declared.errors.OpenError.{OpenError}
 use Rattle.disk_descriptor.specs.declared.errors.OpenError.TheVariants as error
 use Rattle.directory.specs.laws_contents.proofs.pages.Laws.{formed_pages_have_256_words}
-use Rattle.laws_hint.proofs.truth.Laws.{truth_at_opening}
-use Rattle.laws_hint.specs.MapMeanings.{HasEachSector}
+use Rattle.laws_steps.specs.laws_hint.proofs.truth.Laws.{truth_at_opening}
+use Rattle.laws_steps.specs.laws_hint.specs.MapMeanings.{HasEachSector}
 use Rattle.directory.specs.laws_lookup.proofs.hints.Laws.{true_hints_never_mislead}
 use Rattle.laws_session.proofs.begins.Laws.{fresh_memory_is_kept, sessions_begin, sound_packs_are_ready}
 use Rattle.laws_session.proofs.ends.Laws.{sound_packs_begin}
@@ -19,12 +19,13 @@ use Rattle.laws_session.proofs.zones.Laws.{fresh_worlds_have_a_memory}
 use Rattle.laws_session.specs.laws_zone.proofs.levels.Laws.{bases_are_within}
 use Rattle.laws_session.specs.laws_zone.proofs.memories.Laws.{zones_read_back}
 use Rattle.laws_session.specs.BeginLaws.{KeepsFresh}
+use Rattle.pack_model.specs.hints.Sources.{IsFrom}
 use Rattle.pack_model.specs.hints.Truth.{Truthful}
 use Rattle.pack_model.specs.states.Sound.{Sound, mark_clean, mark_of}
 use Rattle.pack_model.specs.reading.Model.{read_as}
 use Rattle.pack_model.specs.reading.Sights.{sights}
 use Rattle.page_seeking.specs.Seeking.{all_listed}
-use Rattle.session_model.specs.Keeping.{Formed, Keeping, StreamFits, world_of}
+use Rattle.session_model.specs.Keeping.{AreApart, Formed, Keeping, OpenFile, StreamFits, StreamFormed, stream_of, world_of}
 use Rattle.session_model.specs.Opening.{Begun, Renewed, Unready, goes_on, not_clean, unless_so, unready}
 use Rattle.session_model.specs.Streams.{Stream}
 use Rattle.session_model.specs.Turning.{State}
@@ -33,6 +34,9 @@ use Rattle.laws_steps.specs.world_model.specs.Levels.{IsAtLevel, all_levels, lev
 use Rattle.exec_session.specs.Meant.{kept}
 use Rattle.exec_session.specs.Opens.{IsFresh, Mended, Refuses, RenewsNot}
 use Rattle.exec_session.specs.declared.session.Session.{Session}
+use Rattle.exec_session.specs.declared.streams.SessionStreams.{SessionStreams}
+use Rattle.world_swap.specs.Fresh.{fresh_memory}
+use Rattle.world_swap.specs.declared.world.World.{World}
 
 -- ---- the memory
 memory_at_level : (words : List ℕ) → words ≡ memory_words (fresh_world 0) → IsAtLevel all_levels words
@@ -42,25 +46,30 @@ memory_at_level words is =
     subst (IsAtLevel all_levels) (sym is)
     (record { least = has.least; most = has.most; memory_is = (zones_read_back (level_base w.level) w.user w.zone (bases_are_within w.level) has.user has.fills).memory_is })
 
+-- ---- streams
+-- of no open stream all is true
+none_open : (os : List OpenFile) → os ≡ [] → (P : OpenFile → Type 0) → All P os
+none_open os none P = let empty : length os ≡ 0 = ap length none in λ i d less. absurd (omega (arith, less, empty))
+
 -- ---- what is fresh
--- made of what opening answered, with a fresh memory
-abbrev pub begun_of : Fields → Hints → ℕ → ℕ → Session
-begun_of descriptor hints moment limit = record { descriptor = descriptor; hints = hints; tally = record { limit = limit; passed = 0; all = 0 }; moment = moment; level = 8; memory = memory_words (fresh_world 0); need = false }
+-- made of what opening answered, with a fresh world
+abbrev pub begun_of : Fields → Hints → World → SessionStreams → ℕ → ℕ → Session
+begun_of descriptor hints world streams moment limit = record { descriptor = descriptor; hints = hints; tally = record { limit = limit; passed = 0; all = 0 }; moment = moment; world = world; streams = streams; need = false }
 
 -- What is fresh of a session.
 pub record IsMade (moment limit : ℕ) (s : Session) : Type 0 where
-  pub memory : s.memory ≡ memory_words (fresh_world 0)
+  pub memory : s.world.memory ≡ memory_words (fresh_world 0)
   pub moment_is : s.moment ≡ moment
-  pub level : s.level ≡ all_levels
+  pub level : s.world.level ≡ all_levels
   pub need : s.need ≡ false
   pub limit_is : s.tally ≡ record { limit = limit; passed = 0; all = 0 }
 
-pub is_made : (descriptor : Fields) (hints : Hints) (moment limit : ℕ) → IsMade moment limit (begun_of descriptor hints moment limit)
-is_made descriptor hints moment limit = record { memory = refl; moment_is = refl; level = refl; need = refl; limit_is = refl }
+pub is_made : (descriptor : Fields) (hints : Hints) (world : World) (streams : SessionStreams) (moment limit : ℕ) → world.memory ≡ fresh_memory → world.level ≡ all_levels → IsMade moment limit (begun_of descriptor hints world streams moment limit)
+is_made descriptor hints world streams moment limit memory level = record { memory = memory; moment_is = refl; level = level; need = refl; limit_is = refl }
 
 module _ (moment limit : ℕ) (s : Session) (made : IsMade moment limit s) where
   keeps : KeepsFresh (kept s) moment
-  keeps = record { moment = made.moment_is; level = made.level; memory = made.memory; streams = refl; need = made.need }
+  keeps = record { moment = made.moment_is; level = made.level; memory = made.memory; streams = s.streams.unopened; need = made.need }
 
   pub is_fresh : s.descriptor.mark ≡ mark_clean → IsFresh moment limit (kept s)
   is_fresh clean = record { world = fresh_memory_is_kept (kept s) moment keeps; tally = made.limit_is; clean = clean }
@@ -69,9 +78,9 @@ module _ (moment limit : ℕ) (s : Session) (made : IsMade moment limit s) where
   is_formed form shape bits = record {
     shape = sym shape;
     bits = bits;
-    memory = rw made.level (memory_at_level s.memory made.memory);
-    streams = λ i d less. absurd (omega (arith, less));
-    apart = tt;
+    memory = rw made.level (memory_at_level s.world.memory made.memory);
+    streams = none_open s.streams.slots s.streams.unopened StreamFormed;
+    apart = subst (λ ss. AreApart (map stream_of ss)) (sym s.streams.unopened) tt;
   }
 
   -- with what DiskDescriptor says it has begun
@@ -122,7 +131,7 @@ module _ (one two : Session) (same : two ≡ renewed_of one two.descriptor (reco
     cut = (sound_packs_begin p 0 mended.sound).1;
     descriptor = λ need. opened.fits;
     fits = no_stream (StreamFits (read_as p)) s.world.streams none;
-    refs = λ i d less. absurd (omega (arith, less));
+    refs = none_open two.streams.slots two.streams.unopened (λ o. IsFrom p o.ref.fid o.ref.leader_at o.ref.place);
   }
 
   pub is_renewed : (p : Pack) → Mended p → HasEachSector p → IsOpened p two.descriptor two.hints.table → Renewed p (kept one) (kept two)

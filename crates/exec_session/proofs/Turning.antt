@@ -1,5 +1,5 @@
 -- A line that writes nothing as a turn: what is kept stays right, and the tally and hints are as they were.
-use Rattle.std.proofs.Common.{◌≡◌, Bool, true, false, cond, List, [], map, refl, sym, subst, ap, ◌∙◌, All, arith}
+use Rattle.std.proofs.Common.{◌≡◌, Bool, true, false, cond, List, [], refl, sym, subst, ap, ◌∙◌, All}
 use Rattle.disk_records.proofs.Growing.{pack-silent}
 use Rattle.disk_records.specs.Packs.{Pack}
 use Rattle.disk_records.specs.declared.records.Event.{Event}
@@ -7,7 +7,7 @@ use Rattle.disk_records.specs.Tapes.{DiskAlone, Taped, added, pack}
 use Rattle.exec_words.specs.declared.line.Line.{Line}
 use Rattle.exec_words.specs.declared.reply.Reply.{Reply}
 use Rattle.exec_words.specs.declared.reply.Reply.TheVariants as reply
-use Rattle.laws_session.proofs.ends.Laws.{failed_turns_keep}
+use Rattle.laws_session.proofs.ends.Laws.{failed_turns_keep, lines_keep_need}
 use Rattle.laws_session.proofs.lines.Laws.{prefixes_answer, silent_lines_answer}
 use Rattle.laws_session.specs.LineAnswers.{GoesOnWith, PrefixAnswers, plain_state, state_in_need}
 use Rattle.pack_model.specs.hints.Tables.{HintsTrue}
@@ -24,12 +24,12 @@ use Rattle.pack_model.specs.sessions.Moves.{Obeys, rest, steps, write}
 use Rattle.pack_model.specs.sessions.Tallies.{counted}
 use Rattle.pack_model.specs.states.Sound.{Sound, mark_clean, mark_of}
 use Rattle.session_model.specs.Answering.{Answered, plain_reply, reply_unless}
-use Rattle.session_model.specs.Keeping.{Keeping, Kept, StreamFits, stream_of, world_of}
+use Rattle.session_model.specs.Keeping.{Keeping, Kept, StreamFits, world_of}
 use Rattle.session_model.specs.Effects.{effect}
 use Rattle.session_model.specs.Replies.{ops, reply_to, unless_refused}
 use Rattle.session_model.specs.Turning.{State, cue_moves, is_quit, is_scavenge, typed}
 use Rattle.exec_session.specs.declared.stop.Stop.TheVariants as stop
-use Rattle.exec_session.specs.Turned.{LineIsRefused, LineStopsUnwritten, LineWritesNothing, SameBut, SameWorld, Turned, TurnedIsATurn}
+use Rattle.exec_session.specs.Turned.{LineIsRefused, LineLeavesAnotherWorld, LineStopsUnwritten, LineWritesNothing, SameBut, SameHeld, SameWorld, Turned, TurnedIsATurn}
 
 -- ---- with few sector commands it is a turn
 over_twice : {b : Bool} → b ≡ false → b ≡ true → ⊥
@@ -47,13 +47,22 @@ turned_is_a_turn old new one two s l r t few = record {
   quick = few;
 }
 
-all_none : {X : Type 0} (P : X → Type 0) → All P []
-all_none P k x less = absurd (omega (arith, less))
-
 -- ---- no record write makes no move
 none_made : {m : Model} {p : Pack} {events : List Event} {moves : List Move} → Obeys session m p events moves → events ≡ [] → moves ≡ []
 none_made (rest here) e = refl
 none_made (write here makes each) e = cc
+
+-- ---- the same of DiskDescriptor
+held_descriptor : (old new : Taped) (one two : Kept) → pack new ≡ pack old → SameHeld old new one two → DescriptorFits (pack old) one.shape one.last one.mark one.pages → DescriptorFits (pack new) two.shape two.last two.mark two.pages
+held_descriptor old new one two same_pack same h =
+    subst (λ p. DescriptorFits p two.shape two.last two.mark two.pages) (sym same_pack)
+    (subst (λ x. DescriptorFits (pack old) x two.last two.mark two.pages) (sym same.shape)
+    (subst (λ x. DescriptorFits (pack old) one.shape x two.mark two.pages) (sym same.last)
+    (subst (λ x. DescriptorFits (pack old) one.shape one.last x two.pages) (sym same.mark)
+    (subst (λ x. DescriptorFits (pack old) one.shape one.last one.mark x) (sym same.pages) h))))
+
+pub held : {old new : Taped} {one two : Kept} → SameBut old new one two → SameHeld old new one two
+held same = record { shape = same.shape; last = same.last; mark = same.mark; pages = same.pages; tally = same.tally; table = same.table }
 
 -- ---- the same world
 pub same_world : (one two : Kept) → SameWorld one two → world_of two ≡ world_of one
@@ -76,15 +85,9 @@ module _ (old new : Taped) (one two : Kept) (s : State) (l : Line) (keeping : Ke
           reads = λ unneeded. ap read_as same_pack ∙ keeping.stands.reads (sym need ∙ unneeded) ∙ sym model;
         };
         cut = subst (λ m. SessionCut m (pack new)) (sym model) (subst (SessionCut s.model) (sym same_pack) keeping.cut);
-        descriptor = λ unneeded.
-            subst (λ p. DescriptorFits p two.shape two.last two.mark two.pages) (sym same_pack)
-            (subst (λ x. DescriptorFits (pack old) x two.last two.mark two.pages) (sym same.shape)
-            (subst (λ x. DescriptorFits (pack old) one.shape x two.mark two.pages) (sym same.last)
-            (subst (λ x. DescriptorFits (pack old) one.shape one.last x two.pages) (sym same.mark)
-            (subst (λ x. DescriptorFits (pack old) one.shape one.last one.mark x) (sym same.pages)
-            (keeping.descriptor (sym same.world.need ∙ unneeded))))));
-        fits = subst (All (StreamFits u.model)) (sym (ap (λ w. w.streams) here ∙ ap (map stream_of) same.world.before)) (all_none (StreamFits u.model));
-        refs = subst (All (λ o. IsFrom (pack new) o.ref.fid o.ref.leader_at o.ref.place)) (sym same.world.streams) (all_none (λ o. IsFrom (pack new) o.ref.fid o.ref.leader_at o.ref.place));
+        descriptor = λ unneeded. held_descriptor old new one two same_pack (held same) (keeping.descriptor (sym same.world.need ∙ unneeded));
+        fits = subst (λ m. All (StreamFits m) u.world.streams) (sym model) (subst (λ w. All (StreamFits s.model) w.streams) (sym world) keeping.fits);
+        refs = subst (All (λ o. IsFrom (pack new) o.ref.fid o.ref.leader_at o.ref.place)) (sym same.world.streams) (subst (λ p. All (λ o. IsFrom p o.ref.fid o.ref.leader_at o.ref.place) one.streams) (sym same_pack) keeping.refs);
       }
 
   nothing_counted : {r : Reply} {u : State} (a : Answered (pack old) s (typed l) (added old new) r u) → two.tally ≡ counted old.writes a.moves one.tally
@@ -112,12 +115,12 @@ module _ (old new : Taped) (one two : Kept) (s : State) (l : Line) (keeping : Ke
   no_start : PrefixAnswers (pack old) s (typed l) [] []
   no_start = prefixes_answer (pack old) s (typed l) [] [] (rest keeping.cut) tt
 
-  in_need_after : (three : Kept) → SameWorld one two → three ≡ record two { need = true } → Keeping (pack new) three (state_in_need s (typed l) [])
+  in_need_after : (three : Kept) → SameWorld one two → three ≡ record two { streams = []; need = true } → Keeping (pack new) three (state_in_need s (typed l) [])
   in_need_after three w is =
       subst (λ p. Keeping p three (state_in_need s (typed l) [])) (sym same_pack)
       (subst (λ k. Keeping (pack old) k (state_in_need s (typed l) [])) (sym is)
-      (failed_turns_keep (pack old) one s [] [] (record two { need = true }) keeping
-      (record { moment = w.moment; level = w.level; memory = w.memory; streams = w.streams; need = refl }) (rest keeping.cut)))
+      (failed_turns_keep (pack old) one s [] [] (record two { streams = []; need = true }) keeping
+      (record { moment = w.moment; level = w.level; memory = w.memory; streams = refl; need = refl }) (rest keeping.cut)))
 
 pub line_writes_nothing : LineWritesNothing
 line_writes_nothing old new one two s l keeping goes leaves none alone silent same =
@@ -131,6 +134,43 @@ line_writes_nothing old new one two s l keeping goes leaves none alone silent sa
       keeping = λ is. kept_after old new one two s l keeping alone silent same u goes.stays (ap (steps session s.model) (no_moves old new one two s l keeping alone silent same goes none)) leaves;
       tally = λ tells. nothing_counted old new one two s l keeping alone silent same a;
       truthful = λ was is. truthful_after old new one two s l keeping alone silent same was;
+    }
+
+pub line_leaves_another_world : LineLeavesAnotherWorld
+line_leaves_another_world old new one two s l keeping goes fits none alone silent same ends =
+    let u = plain_state (pack old) s (typed l) in
+    let p : pack new ≡ pack old = pack-silent alone.grown silent in
+    let a : Answered (pack old) s (typed l) (added old new) (plain_reply s (typed l)) u =
+    subst (λ es. Answered (pack old) s (typed l) es (plain_reply s (typed l)) u) (sym silent) (silent_lines_answer (pack old) s l goes keeping.cut keeping.stands none) in
+    let moved : cue_moves (pack old) s (typed l) ≡ [] =
+    ap (λ b. cond b (ending_moves s.world.need (mark_of (sights (pack old))) s.model (ops l s.model s.world)) (line_moves (mark_of (sights (pack old))) s.model (ops l s.model s.world))) goes.stays
+    ∙ ap (line_moves (mark_of (sights (pack old))) s.model) none in
+    let model : u.model ≡ s.model = ap (steps session s.model) moved in
+    let need : u.world.need ≡ s.world.need = lines_keep_need l s.model s.world in
+    let was : two.need ≡ one.need = ap (λ w. w.need) ends.world ∙ need ∙ ap (λ w. w.need) keeping.world in
+    record {
+      state = u;
+      goes_on = goes.stays;
+      answered = a;
+      need = λ is. ap (λ w. w.need) ends.world;
+      keeping = λ is. record {
+        begins = goes.stays;
+        world = sym ends.world;
+        stands = record {
+          sound = λ unneeded. subst Sound (sym p) (keeping.stands.sound (sym need ∙ unneeded));
+          reads = λ unneeded. ap read_as p ∙ keeping.stands.reads (sym need ∙ unneeded) ∙ sym model;
+        };
+        cut = subst (λ m. SessionCut m (pack new)) (sym model) (subst (SessionCut s.model) (sym p) keeping.cut);
+        descriptor = λ unneeded. held_descriptor old new one two p same (keeping.descriptor (sym was ∙ unneeded));
+        fits = subst (λ m. All (StreamFits m) u.world.streams) (sym model) fits;
+        refs = ends.refs;
+      };
+      tally = λ tells. same.tally ∙ ap (λ ms. counted old.writes ms one.tally) (sym (none_made a.each silent));
+      truthful = λ truly is. record {
+        links = subst LinksTrue (sym p) truly.links;
+        table = same.table truly.table;
+        described = subst (λ q. mark_of (sights q) ≡ mark_clean → HintsTrue q) (sym p) truly.described;
+      };
     }
 
 pub line_is_refused : LineIsRefused
@@ -152,7 +192,7 @@ line_stops_unwritten old new one two s l (stop.Misled place at wanted found) kee
       goes_on = refl;
       answered = a;
       need = λ is. refl;
-      keeping = λ is. in_need_after old new one two s l keeping alone silent same (record two { need = true }) same.world refl;
+      keeping = λ is. in_need_after old new one two s l keeping alone silent same (record two { streams = []; need = true }) same.world refl;
       tally = λ tells. nothing_counted old new one two s l keeping alone silent same a;
       truthful = λ was is. truthful_after old new one two s l keeping alone silent same was;
     }

@@ -1,11 +1,14 @@
 -- What calls find that look for the operands of a line, on a sound pack.
-use Rattle.std.specs.Prelude.{◌≡◌, ℕ, true, List, [], ◌∷◌, Option, Some, None}
+use Rattle.std.specs.Prelude.{◌≡◌, ℕ, true, IfSome, List, [], ◌∷◌, Option, Some, None}
+use Rattle.std.specs.Option.{option_map}
 use Rattle.alto_words.specs.declared.fid.Fid.{Fid}
 use Rattle.alto_words.specs.Fid.{is_directory, sys_dir}
+use Rattle.alto_words.specs.declared.wanted.Wanted.{Wanted}
 use Rattle.disk_records.specs.Packs.{Pack}
 use Rattle.disk_records.specs.declared.records.Place.TheVariants.{Root}
 use Rattle.pack_model.specs.reading.Files.{first}
-use Rattle.pack_model.specs.reading.Model.{Model, read_as}
+use Rattle.pack_model.specs.reading.Model.{Model, dir_items, read_as}
+use Rattle.pack_model.specs.reading.Versions.{entry_wanted}
 use Rattle.page_seeking.specs.Refs.{FileIsFrom}
 use Rattle.page_seeking.specs.declared.refs.FileRef.{FileRef}
 use Rattle.exec_words.specs.declared.line.Path.{Path}
@@ -31,6 +34,12 @@ pub record IsDirOf (p : Pack) (name : Option (List ℕ)) (dir : FileRef) : Type 
 -- there is none
 abbrev pub IsNoDirOf : Pack → Option (List ℕ) → Refusal → Type 0
 IsNoDirOf p name r = (r ≡ refusal.NoSuchName) × (dir_of (read_as p) name ≡ None)
+
+-- ---- entries
+-- The entry of a directory that is wanted is the model's, with an address of its file that stands where it was taken from; or there is none.
+pub record IsInDir (p : Pack) (d : Fid) (w : Wanted) (found : Option (FileRef × List ℕ)) : Type 0 where
+  pub is : entry_wanted w (dir_items (read_as p) d) ≡ option_map (λ x. (x.0.fid, x.1)) found
+  pub from : IfSome found (λ x. FileIsFrom p x.0)
 
 -- ---- files
 -- The file that a path means, its directory and the name of its entry.

@@ -20,7 +20,7 @@ use Rattle.exec_session.specs.declared.session.Session.{Session}
 use Rattle.exec_session.specs.declared.stop.Stop.{Stop}
 use Rattle.exec_session.specs.declared.stop.Stop.TheVariants.{Refused, Misled, DiskFault, Memory}
 
--- ---- what is kept; no stream is open
+-- ---- what is kept
 abbrev pub kept : Session → Kept
 kept s = record {
   shape = s.descriptor.shape;
@@ -32,9 +32,9 @@ kept s = record {
   refused = s.hints.cache.refused;
   tally = s.tally;
   moment = s.moment;
-  level = s.level;
-  memory = s.memory;
-  streams = [];
+  level = s.world.level;
+  memory = s.world.memory;
+  streams = s.streams.slots;
   need = s.need;
 }
 
@@ -64,9 +64,9 @@ abbrev pub replied : {Z : Type 0} → Result (Vec ℕ Z) Stop → Reply
 replied (Ok text) = reply.Done text.items
 replied (Err stop) = stopped stop
 
--- after a hint failed a scavenge is needed
+-- after a hint failed no stream is open, and a scavenge is needed
 abbrev pub in_need : Kept → Kept
-in_need k = record k { need = true }
+in_need k = record k { streams = []; need = true }
 
 abbrev pub kept_stopped : Stop → Kept → Kept
 kept_stopped (Refused r) k = k
@@ -112,10 +112,3 @@ pub record LooksAbout (told : Bool) (most : ℕ) (old new : Taped) (one two : Se
 -- so many sector commands at most, unless a note was refused
 abbrev pub IsSoon : ℕ → Taped → Taped → Session → Session → Type 0
 IsSoon most old new one two = (new.runs ≤ old.runs + most) ⊎ NoteRefused one.hints.cache two.hints.cache
-
--- ---- calls that change one thing of what a session keeps
-abbrev pub IsSameButTable : Session → Session → Type 0
-IsSameButTable one two = two ≡ record one { hints = record { cache = one.hints.cache; table = two.hints.table } }
-
-abbrev pub IsSameButMark : Session → Session → Type 0
-IsSameButMark one two = two ≡ record one { descriptor = record one.descriptor { mark = two.descriptor.mark } }

@@ -82,9 +82,10 @@ abbrev pub Renews : Pack → Kept → Kept → Result (Unit {0}) OpenError → T
 Renews p one two (Ok x) = Renewed p one two
 Renews p one two (Err e) = RenewsNot e
 
--- on every machine: the world goes on and needs no scavenge, the tally stays, and no address is kept
+-- on every machine: the world goes on and needs no scavenge, the open streams and the tally stay, and no address is kept
 pub record GoesOn (one two : Kept) : Type 0 where
   pub world : world_of two ≡ mended_world (world_of one)
+  pub streams : two.streams ≡ one.streams
   pub tally : two.tally ≡ one.tally
   pub cache : two.cache ≡ []
 

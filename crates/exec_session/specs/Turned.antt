@@ -1,6 +1,7 @@
 -- What a line owes as a turn, and how a line is answered that writes nothing.
 -- How the turn of a line is put together is this project's choice.
-use Rattle.std.specs.Prelude.{◌≡◌, ◌-◌, false, List, [], Some, Err}
+use Rattle.std.specs.Prelude.{◌≡◌, ◌-◌, false, All, List, [], Some, Err}
+use Rattle.disk_records.specs.Packs.{Pack}
 use Rattle.disk_records.specs.Tapes.{DiskAlone, Taped, added, pack}
 use Rattle.exec_words.specs.declared.line.Line.{Line}
 use Rattle.exec_words.specs.declared.reply.Refusal.{Refusal}
@@ -8,13 +9,15 @@ use Rattle.exec_words.specs.declared.reply.Reply.{Reply}
 use Rattle.exec_words.specs.declared.reply.Reply.TheVariants as reply
 use Rattle.directory.specs.laws_lookup.specs.HintLaws.{HasFullValues}
 use Rattle.laws_session.specs.LineAnswers.{GoesOnWith}
+use Rattle.laws_session.specs.StreamLaws.{StreamsFit}
+use Rattle.pack_model.specs.hints.Sources.{IsFrom}
 use Rattle.pack_model.specs.hints.Tables.{TableTrue}
 use Rattle.pack_model.specs.hints.Truth.{Truthful}
 use Rattle.pack_model.specs.operations.Step.{Operation}
 use Rattle.pack_model.specs.sessions.Tallies.{counted}
 use Rattle.session_model.specs.Answering.{Answered, IsAnswer, NoneRefused, TakesTurn, TellsWrites, plain_reply}
 use Rattle.session_model.specs.Bounds.{AllHandy, RunsWithin}
-use Rattle.session_model.specs.Keeping.{Kept, Keeping}
+use Rattle.session_model.specs.Keeping.{Kept, Keeping, world_of}
 use Rattle.session_model.specs.Replies.{next, ops, refusal}
 use Rattle.session_model.specs.Turning.{HintFailing, IsTakenUp, State, cue_files, typed}
 use Rattle.exec_session.specs.Meant.{IfHint, IfRefused, kept_stopped, stopped}
@@ -53,20 +56,33 @@ abbrev pub TurnedIsATurn : Type 0
 TurnedIsATurn = (old new : Taped) (one two : Kept) (s : State) (l : Line) (r : Reply) → Turned old new one two s l r → FewRuns old new one two s l r → TakesTurn old new one two s (typed l) r
 
 -- ---- what is kept
--- The same world, and no stream, as of a line that changes files alone.
+-- The same world, with its streams, as of a line that changes files alone.
 pub record SameWorld (one two : Kept) : Type 0 where
   pub moment : two.moment ≡ one.moment
   pub level : two.level ≡ one.level
   pub memory : two.memory ≡ one.memory
-  pub before : one.streams ≡ []
-  pub streams : two.streams ≡ []
+  pub streams : two.streams ≡ one.streams
   pub need : two.need ≡ one.need
 
 -- the model's line leaves the world as it is
 abbrev pub LeavesWorld : State → Line → Type 0
 LeavesWorld s l = next l s.model s.world ≡ s.world
 
--- And the same of DiskDescriptor, the same tally, and a table that is true if it was.
+-- The world is the model's after the line, and the files of its streams are found by their addresses.
+pub record EndsAs (q : Pack) (two : Kept) (s : State) (l : Line) : Type 0 where
+  pub world : world_of two ≡ next l s.model s.world
+  pub refs : All (λ o. IsFrom q o.ref.fid o.ref.leader_at o.ref.place) two.streams
+
+-- The same of DiskDescriptor, the same tally, and a table that is true if it was.
+pub record SameHeld (old new : Taped) (one two : Kept) : Type 0 where
+  pub shape : two.shape ≡ one.shape
+  pub last : two.last ≡ one.last
+  pub mark : two.mark ≡ one.mark
+  pub pages : two.pages ≡ one.pages
+  pub tally : two.tally ≡ one.tally
+  pub table : TableTrue (pack old) one.busy → TableTrue (pack new) two.busy
+
+-- And the same world.
 pub record SameBut (old new : Taped) (one two : Kept) : Type 0 where
   pub world : SameWorld one two
   pub shape : two.shape ≡ one.shape
@@ -80,6 +96,11 @@ pub record SameBut (old new : Taped) (one two : Kept) : Type 0 where
 -- the plain reply of one that has no operations: it is refused, or it reads
 abbrev pub LineWritesNothing : Type 0
 LineWritesNothing = (old new : Taped) (one two : Kept) (s : State) (l : Line) → Keeping (pack old) one s → GoesOnWith s l → LeavesWorld s l → line_ops s l ≡ [] → DiskAlone old new → added old new ≡ [] → SameBut old new one two → Turned old new one two s l (plain_reply s (typed l))
+
+-- one that leaves another world, as of a line on the memory or on a stream: each stream fits the model then
+abbrev pub LineLeavesAnotherWorld : Type 0
+LineLeavesAnotherWorld = (old new : Taped) (one two : Kept) (s : State) (l : Line) → Keeping (pack old) one s → GoesOnWith s l → StreamsFit s.model (next l s.model s.world) → line_ops s l ≡ [] → DiskAlone old new → added old new ≡ [] → SameHeld old new one two → EndsAs (pack new) two s l
+    → Turned old new one two s l (plain_reply s (typed l))
 
 -- one that the model refuses
 abbrev pub LineIsRefused : Type 0

@@ -4,6 +4,7 @@ ghost use Rattle.std.specs.Prelude.{◌≡◌};
 
 use crate::session::Session;
 use crate::stop::Stop;
+use crate::streams::SessionStreams;
 use alto_words::List;
 use exec_words::{Refusal, Reply};
 
@@ -33,6 +34,7 @@ pub fn stopped(session: &mut Session, stop: Stop) -> Reply
             wanted,
             found,
         } => {
+            session.streams = SessionStreams::none();
             session.need = true;
             Reply::Refused {
                 refusal: Refusal::HintFailed {

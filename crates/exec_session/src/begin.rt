@@ -10,25 +10,26 @@ ghost use Rattle.pack_model.specs.states.Sentences.{EachOnce};
 ghost use Rattle.session_model.specs.Keeping.{Formed};
 ghost use Rattle.std.specs.Prelude.{IfOk, IsTrue, OnErr, OnOk, [], ◌≡◌};
 
-use crate::memory::FreshMemory;
-use crate::opening::open_pack;
+mod opening;
+mod root;
+
+use crate::begin::opening::open_pack;
 use crate::session::Session;
+use crate::streams::SessionStreams;
 use alto_words::Memory;
 use disk_descriptor::OpenError;
 use disk_records::{Disk, Tally};
 use hint_cache::{HintCache, Hints};
 use std::alloc::Global;
-
-/// The highest level.
-const ALL_LEVELS: u8 = 8;
+use world_swap::World;
 
 impl Session {
     /// Opens the pack: finds SysDir at sector 1 and DiskDescriptor by its name, and enters the pack. Nothing is written. Dates will be
     /// `moment`, in seconds since the start of 1901, and `limit` is the number of record writes up to which the tally counts.
     ///
     /// The first of these that holds: NoRoot, NoDescriptor, WrongLength, BadDescriptor, NotClean. Misled: an address on the way to SysDir's or
-    /// DiskDescriptor's words is wrong. DiskFault: the device failed. Memory: none was left for what a session keeps; the words of the memory
-    /// take no room. On a pack that carries a page twice too, a session begins only if a sector that carries DiskDescriptor's page 1 has the
+    /// DiskDescriptor's words is wrong. DiskFault: the device failed. Memory: none was left for what a session keeps, 131,072 bytes of it for
+    /// the words of the memory. On a pack that carries a page twice too, a session begins only if a sector that carries DiskDescriptor's page 1 has the
     /// clean mark and the right words.
     pub fn begin<D: Disk>(
         alloc: Global,
@@ -44,6 +45,10 @@ impl Session {
         ensures cause { HasCause cause_of_open (D.tape disk.old) (D.tape disk.new) result }
         ensures alone { DiskAlone (D.tape disk.old) (D.tape disk.new) }
     {
+        let world = match World::fresh(alloc) {
+            Ok(world) => world,
+            Err(Memory) => return Err(OpenError::Memory),
+        };
         let opened = open_pack(alloc, disk)?;
         Ok(Session {
             descriptor: opened.descriptor,
@@ -54,8 +59,8 @@ impl Session {
                 all: 0,
             },
             moment,
-            level: ALL_LEVELS,
-            memory: FreshMemory,
+            world,
+            streams: SessionStreams::none(),
             need: false,
         })
     }

@@ -2,6 +2,7 @@
 ghost use Rattle.disk_descriptor.specs.Fields.{Fits, closed, closes};
 ghost use Rattle.disk_descriptor.specs.Writing.{Writes};
 ghost use Rattle.disk_records.specs.Causes.{HasCause, IsCause};
+ghost use Rattle.disk_records.specs.Frames.{WritesUsable};
 ghost use Rattle.disk_records.specs.Tapes.{DiskAlone, pack};
 ghost use Rattle.exec_session.specs.Meant.{IfHint, IfRefused, kept};
 ghost use Rattle.exec_session.specs.Stops.{cause_of_stop};
@@ -32,6 +33,7 @@ fn close<D: Disk>(session: &mut Session, disk: &mut D) -> Result<(), Stop>
     ensures kept { (kept session.old).need ≡ false → OnOk result (session.new ≡ record session.old { descriptor = closed session.old.descriptor }) }
     ensures left { OnErr result (session.new ≡ session.old) }
     ensures cause { HasCause cause_of_stop (D.tape disk.old) (D.tape disk.new) result }
+    ensures frame { WritesUsable D.told (D.tape disk.old) (D.tape disk.new) }
     ensures alone { DiskAlone (D.tape disk.old) (D.tape disk.new) }
 {
     if session.need {
@@ -56,6 +58,7 @@ impl Session {
         ensures limit { (kept self.new).tally.limit ≡ (kept self.old).tally.limit }
         ensures formed { Formed (D.tape disk.new).form (kept self.new) }
         ensures cause { IsCause (D.tape disk.old) (D.tape disk.new) (cause_of_reply result) }
+        ensures frame { WritesUsable D.told (D.tape disk.old) (D.tape disk.new) }
         ensures alone { DiskAlone (D.tape disk.old) (D.tape disk.new) }
     {
         match close(self, disk) {
@@ -77,6 +80,7 @@ pub fn quit<D: Disk>(session: &mut Session, disk: &mut D) -> Reply
     ensures limit { (kept session.new).tally.limit ≡ (kept session.old).tally.limit }
     ensures formed { Formed (D.tape disk.new).form (kept session.new) }
     ensures cause { IsCause (D.tape disk.old) (D.tape disk.new) (cause_of_reply result) }
+    ensures frame { WritesUsable D.told (D.tape disk.old) (D.tape disk.new) }
     ensures alone { DiskAlone (D.tape disk.old) (D.tape disk.new) }
 {
     match close(session, disk) {

@@ -1,10 +1,11 @@
 // A session: what is kept from one line to the next.
 ghost use Rattle.std.specs.Prelude.{◌≡◌};
 
-use crate::memory::FreshMemory;
+use crate::streams::SessionStreams;
 use disk_descriptor::Descriptor;
 use disk_records::Tally;
 use hint_cache::Hints;
+use world_swap::World;
 
 /// What a session keeps from one line to the next.
 #[derive(Drop)]
@@ -17,10 +18,10 @@ pub struct Session {
     pub tally: Tally,
     /// The moment of later dates, in seconds since the start of 1901.
     pub moment: u32,
-    /// The highest level of service that is in memory, 1 to 8.
-    pub level: u8,
-    /// The memory, 65,536 words: those of the beginning, since no line changes them.
-    pub memory: FreshMemory,
+    /// The memory, and the highest level of service that is in it.
+    pub world: World,
+    /// The open streams.
+    pub streams: SessionStreams,
     /// Whether a hint failed since the pack was opened or scavenged.
     pub need: bool,
 }
@@ -43,9 +44,9 @@ impl Session {
 
     /// The highest level of service that is in memory, 1 to 8.
     pub fn level(&self) -> u8
-        ensures { result ≡ self.now.level }
+        ensures { result ≡ self.now.world.level }
     {
-        self.level
+        self.world.level
     }
 
     /// Whether a hint failed since the pack was opened or scavenged: only `scavenge`, `counterjunta` and `quit` are obeyed then.

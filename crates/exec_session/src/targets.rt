@@ -14,8 +14,8 @@ ghost use Rattle.session_model.specs.Operands.{no_directory};
 ghost use Rattle.session_model.specs.Turning.{HintFailing};
 ghost use Rattle.std.specs.Prelude.{IfOk, IsErrOf, IsTrue, None, OnOk, Some, [], ◌*◌, ◌+◌, ◌≡◌};
 
-use crate::kinds::{refuse_descriptor, refuse_directory};
 use crate::operands::find_path;
+use crate::refusals::{refuse_descriptor, refuse_directory};
 use crate::serials::find_serial;
 use crate::session::Session;
 use crate::stop::Stop;

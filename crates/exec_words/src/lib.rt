@@ -8,8 +8,8 @@
 //!    verb with its operands in each row (`Grammar`).
 //! 2. Each line that can be typed is read from some text, and no other line from any (`laws`). `is_typed` tells which can be.
 //! 3. `reply_text` answers exactly the text of a reply, and the calls beside it those of lines that are done (`Texts`).
-//! 4. `is_built` tells which lines this program obeys: those on files and directories, `free`, `settime` and `quit`. `as_built` makes every
-//!    other a bad line.
+//! 4. `is_built` tells which lines this program obeys: those on files and directories, those on the memory, `free`, `settime` and `quit`.
+//!    `as_built` makes every other a bad line.
 //! Not promised: that memory is left for the bytes of a line, or for a text; how long anything takes.
 #![tactic(auto)]
 

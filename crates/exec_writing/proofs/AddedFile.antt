@@ -24,23 +24,23 @@ use Rattle.session_model.specs.Effects.{effect}
 use Rattle.session_model.specs.Refusals.{most_serials}
 use Rattle.session_model.specs.Replies.{ops, refusal as refusal_to}
 use Rattle.session_model.specs.Turning.{HintFailing, State, cue_files, typed}
-use Rattle.exec_session.specs.Meant.{IfHint, IfRefused, IsSameButMark, IsSameButTable, kept, kept_stopped, stopped}
-use Rattle.exec_session.specs.Rooms.{pages_planned}
+use Rattle.exec_session.specs.Meant.{IfHint, IfRefused, kept, kept_stopped, stopped}
+use Rattle.exec_steps.specs.Asked.{IsSameButMark, IsSameButTable, MayMakeEntered, Works, made_entered, made_fid}
+use Rattle.exec_steps.specs.Rooms.{pages_planned}
 use Rattle.exec_session.specs.Turned.{Begins, LeavesWorld, Turned, line_ops}
-use Rattle.exec_session.specs.declared.rooms.NewEntry.{NewEntry}
+use Rattle.exec_steps.specs.declared.rooms.NewEntry.{NewEntry}
 use Rattle.exec_session.specs.declared.session.Session.{Session}
 use Rattle.exec_session.specs.declared.stop.Stop.{Stop}
-use Rattle.exec_session.specs.Asked.{MayMakeEntered, Works, made_entered, made_fid}
-use Rattle.exec_session.specs.Midway.{AreFree, Arrived, Midway, Started, StepsOn}
+use Rattle.exec_steps.specs.Midway.{AreFree, Arrived, Midway, Started, StepsOn}
 use Rattle.exec_writing.proofs.Writing.{MayWrite, opened, opening_stops, steps_done, steps_stop}
 use Rattle.exec_writing.specs.Entries.{AddsFile, new_refusal}
 use Rattle.disk_records.proofs.Growing.{pack-silent}
 use Rattle.exec_words.specs.declared.reply.Reply.TheVariants as reply
 use Rattle.session_model.specs.Answering.{plain_reply}
 use Rattle.session_model.specs.Touched.{files_touched}
-use Rattle.exec_session.proofs.Stepping.{if_hint_weaker}
+use Rattle.exec_steps.proofs.Stepping.{if_hint_weaker}
 use Rattle.exec_writing.proofs.Ends.{begins_fits, begins_model, begins_sound, files_are, stops_unwritten}
-use Rattle.exec_session.proofs.Frames.{world_worked}
+use Rattle.exec_steps.proofs.Frames.{world_worked}
 use Rattle.exec_writing.proofs.NewSectors.{refused_then}
 use Rattle.exec_session.proofs.LookedBefore.{looked_before, same_count}
 use Rattle.exec_writing.specs.Writes.{IsWritten}
@@ -213,6 +213,6 @@ module _ (a b : Taped) (s0 s1 : Session) (s : State) (l : Line) (e : NewEntry) (
         let done = steps_done b (kept s0) (kept s1) s l at fresh may c (kept s2) u started T d (kept s3) (sys_dir ∷ e.dir.fid ∷ []) y (world_worked worked) next (ap (λ m. refusal_to l m s.world) (sym reads) ∙ none) (made_own d s3 (Ok y) steps) in
         record {
           unrefused = done.unrefused;
-          plain = looked_before a b d (kept s0) (kept s3) s l (plain_reply s (typed l)) h.alone next h.silent h.writes done.plain;
+          plain = λ form formed. looked_before a b d (kept s0) (kept s3) s l (plain_reply s (typed l)) h.alone next h.silent h.writes (done.plain form formed);
           memory = looked_before a b d (kept s0) (kept s3) s l reply.Memory h.alone next h.silent h.writes done.memory;
         }

@@ -32,13 +32,13 @@ use Rattle.session_model.specs.Turning.{State}
 use Rattle.session_model.specs.Worlds.{World}
 use Rattle.exec_session.proofs.Finding.{root_found}
 use Rattle.exec_session.specs.Found.{root_ref}
-use Rattle.exec_session.specs.Meant.{IsSameButTable, kept}
+use Rattle.exec_steps.specs.Asked.{IsSameButTable, MayMakeEntered, first_widenings, made_entered, made_fid}
+use Rattle.exec_session.specs.Meant.{kept}
 use Rattle.exec_session.specs.Turned.{Begins, SameBut}
-use Rattle.exec_session.specs.declared.rooms.NewEntry.{NewEntry}
+use Rattle.exec_steps.specs.declared.rooms.NewEntry.{NewEntry}
 use Rattle.exec_session.specs.declared.session.Session.{Session}
-use Rattle.exec_session.proofs.Calling.{dir_stands_still}
-use Rattle.exec_session.specs.Asked.{MayMakeEntered, first_widenings, made_entered, made_fid}
-use Rattle.exec_session.specs.Midway.{AreFree, Arrived}
+use Rattle.exec_steps.proofs.Calling.{dir_stands_still}
+use Rattle.exec_steps.specs.Midway.{AreFree, Arrived}
 use Rattle.exec_session.specs.laws_lookup.specs.HintLaws.{HasFullValues}
 
 -- ---- reserved sectors
@@ -113,7 +113,7 @@ begins_there a b k s l same begins = record {
 -- what is kept, if only the table may be another, which is true if it was
 pub same_but_reserved : (a b : Taped) (s0 s1 : Session) → pack b ≡ pack a → IsSameButTable s0 s1 → (TableTrue (pack a) s0.hints.table → TableTrue (pack a) s1.hints.table) → SameBut a b (kept s0) (kept s1)
 same_but_reserved a b s0 s1 here same table = record {
-  world = record { moment = ap (λ x. x.moment) same; level = ap (λ x. x.level) same; memory = ap (λ x. x.memory) same; before = refl; streams = refl; need = ap (λ x. x.need) same };
+  world = record { moment = ap (λ x. x.moment) same; level = ap (λ x. x.world.level) same; memory = ap (λ x. x.world.memory) same; streams = ap (λ x. x.streams.slots) same; need = ap (λ x. x.need) same };
   shape = ap (λ x. x.descriptor.shape) same;
   last = ap (λ x. x.descriptor.last) same;
   mark = ap (λ x. x.descriptor.mark) same;

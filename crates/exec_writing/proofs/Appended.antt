@@ -1,5 +1,5 @@
 -- An append that has reserved its sectors, as a turn: its plan, what is asked of its steps, and its sector commands.
-use Rattle.std.proofs.Common.{◌≡◌, ◌≤◌, ◌<◌, ◌∙◌, ◌+◌, ◌-◌, ◌*◌, ◌∷◌, ◌++◌, ℕ, Bool, IsTrue, List, [], All, Option, Some, Vec, Result, Err, OnErr, length, min, true, ap, inl, inr, refl, sym, subst, arith}
+use Rattle.std.proofs.Common.{◌≡◌, ◌≤◌, ◌<◌, ◌∙◌, ◌+◌, ◌-◌, ◌*◌, ◌∷◌, ◌++◌, ℕ, Bool, IsTrue, List, [], All, Option, Some, Vec, Result, Err, OnErr, false, length, min, true, ap, inl, inr, refl, sym, subst, arith}
 use Rattle.std.specs.Result.{IsErrAnd}
 use Rattle.alto_words.specs.declared.fid.Fid.{Fid}
 use Rattle.disk_records.proofs.Growing.{pack-silent}
@@ -31,30 +31,31 @@ use Rattle.session_model.specs.Effects.{appended_ops}
 use Rattle.session_model.specs.Finding.{the_file}
 use Rattle.session_model.specs.Keeping.{Keeping, Kept, world_of}
 use Rattle.session_model.specs.Operands.{no_directory}
+use Rattle.session_model.specs.Refusals.{is_streamed}
 use Rattle.session_model.specs.Touched.{files_touched}
 use Rattle.session_model.specs.Turning.{HintFailing, State, cue_files, typed}
 use Rattle.session_model.specs.Replies.{refusal as refusal_to}
 use Rattle.session_model.specs.Worlds.{World}
 use Rattle.exec_session.specs.Found.{files_followed, operand}
-use Rattle.exec_session.specs.Meant.{IfHint, IfRefused, IsSameButTable, IsSoon, LooksAbout, MayObey, TakesLine, kept}
+use Rattle.exec_session.specs.Meant.{IfHint, IfRefused, IsSoon, LooksAbout, MayObey, TakesLine, kept}
+use Rattle.exec_steps.specs.Asked.{IsSameButTable, MayGrowFile, Works}
 use Rattle.exec_session.specs.declared.session.Session.{Session}
 use Rattle.exec_session.specs.declared.stop.Stop.{Stop}
 use Rattle.exec_session.specs.declared.stop.Stop.TheVariants as stop
 use Rattle.exec_session.proofs.Looking.{quick_stays}
 use Rattle.exec_session.proofs.Stopping.{error_is}
-use Rattle.exec_session.specs.Asked.{MayGrowFile, Works}
-use Rattle.exec_session.specs.Midway.{AreFree, MayStart}
+use Rattle.exec_steps.specs.Midway.{AreFree, MayStart}
 use Rattle.exec_writing.specs.Measured.{IsMeasured}
 use Rattle.exec_writing.specs.declared.measuring.Measured.{Measured}
 use Rattle.exec_writing.proofs.Appending.{append_full, append_plans, append_writes, few_bytes, few_pages, may_grow}
-use Rattle.exec_session.proofs.Frames.{world_worked, works_looked, works_reserved, works_twice}
+use Rattle.exec_steps.proofs.Frames.{world_worked, works_looked, works_reserved, works_twice}
 use Rattle.exec_writing.proofs.Lengths.{measured_length}
 use Rattle.exec_writing.proofs.Reserved.{alone_both, ready_reserved, reserved_free, same_but_reserved, silent_both, table_was}
 use Rattle.exec_writing.proofs.Touching.{follows_file, handy_front, handy_of, named}
 use Rattle.exec_writing.proofs.Turns.{Plans, ReadyToWrite, may_start, touches, unneeded, unwritten_turns}
 
 module _ {told : Bool} {most few : ℕ} (old mid at : Taped) (s t u : Session) (target : Target) (bytes items fresh : List ℕ) (x : Measured) (pages : ℕ) (is_told : IsTrue told) (may : MayObey old s (line.Append target bytes)) (about : LooksAbout told most old mid s t) (looks : Looks told few mid at) (same : IsSameButTable t u) (is : fresh ≡ items)
-    (counts : pages ≡ pages_added x.length (length bytes)) (found : Sound (pack old) → IsMeasured (pack old) target x) (reserved : IsReserved (pages_of mid.form) (min pages 65535) u.hints.table items) (free : All (λ i. is_free_at (pack mid) i ≡ true) items) (enough : Sound (pack mid) → pages ≤ room (read_as (pack mid)))
+    (counts : pages ≡ pages_added x.length (length bytes)) (found : Sound (pack old) → IsMeasured (pack old) target x) (none : is_streamed (world_of (kept s)) (Some x.file.fid) ≡ false) (reserved : IsReserved (pages_of mid.form) (min pages 65535) u.hints.table items) (free : All (λ i. is_free_at (pack mid) i ≡ true) items) (enough : Sound (pack mid) → pages ≤ room (read_as (pack mid)))
     (table : Sound (pack mid) → TableTrue (pack mid) t.hints.table → TableReserves (pack mid) u.hints.table items) (first : old.writes ≡ capped (writes_in old.events)) (next : at.writes ≡ capped (writes_in at.events)) (formed : AreFormed (pack at)) where
   abbrev l : Line
   l = line.Append target bytes
@@ -82,7 +83,7 @@ module _ {told : Bool} {most few : ℕ} (old mid at : Taped) (s t u : Session) (
 
   pub append_planned : Sound (pack old) → Plans (read_as (pack old)) l (world_of (kept s)) (appended_ops f bytes s.moment) (length_text (x.length + length bytes)) (f ∷ [])
   append_planned right =
-      append_plans (pack old) (world_of (kept s)) target bytes right refl may.taken_up x (found right)
+      append_plans (pack old) (world_of (kept s)) target bytes right may.taken_up x (found right) none
       (subst (λ n. n ≤ room (read_as (pack old))) counts (subst (λ p. pages ≤ room (read_as p)) first_same (enough (subst Sound (sym first_same) right))))
 
   pub append_may : Sound (pack old) → MayGrowFile (pack at) x.file bytes fresh
@@ -176,10 +177,10 @@ no_hint T P stop.DiskFault h = tt
 no_hint T P stop.Memory h = tt
 
 pub unreserved_turns : {T Z : Type 0} {told : Bool} {most few : ℕ} (old mid at : Taped) (s t u : Session) (target : Target) (bytes : List ℕ) (x : Measured) (pages : ℕ) → IsTrue told → MayObey old s (line.Append target bytes) → LooksAbout told most old mid s t → Looks told few mid at → IsSameButTable t u
-    → pages ≡ pages_added x.length (length bytes) → (Sound (pack old) → IsMeasured (pack old) target x) → (answer : Result T Stop) (e : Stop) (r : Result (Vec ℕ Z) Stop) → answer ≡ Err e → IsErrAnd r (λ y. y ≡ e)
+    → pages ≡ pages_added x.length (length bytes) → (Sound (pack old) → IsMeasured (pack old) target x) → is_streamed (world_of (kept s)) (Some x.file.fid) ≡ false → (answer : Result T Stop) (e : Stop) (r : Result (Vec ℕ Z) Stop) → answer ≡ Err e → IsErrAnd r (λ y. y ≡ e)
     → (Sound (pack mid) → IfRefused answer (λ y. (y ≡ refusal.Full (min pages 65535) (room (read_as (pack mid)))) × (room (read_as (pack mid)) < pages))) → IfHint answer (λ place number wanted there. ⊥)
     → (Sound (pack mid) → TableTrue (pack mid) t.hints.table → OnErr answer (TableTrue (pack mid) u.hints.table)) → TakesLine old at s u (line.Append target bytes) r
-unreserved_turns {T = T} old mid at s t u target bytes x pages told may about looks same counts found answer e r was is full unmisled table =
+unreserved_turns {T = T} old mid at s t u target bytes x pages told may about looks same counts found none answer e r was is full unmisled table =
     let p = pack old in
     let l = line.Append target bytes in
     let w = world_of (kept s) in
@@ -189,7 +190,7 @@ unreserved_turns {T = T} old mid at s t u target bytes x pages told may about lo
     (λ right.
     let few = few_pages x.length (length bytes) (few_bytes w target bytes may.taken_up) in
     full_is T p w l pages e (omega (arith, counts, few))
-    (λ less. append_full p w target bytes right refl may.taken_up x (found right) (subst (λ n. room (read_as p) < n) counts less) ∙ ap (λ n. Some (refusal.Full n (room (read_as p)))) (sym counts))
+    (λ less. append_full p w target bytes right may.taken_up x (found right) none (subst (λ n. room (read_as p) < n) counts less) ∙ ap (λ n. Some (refusal.Full n (room (read_as p)))) (sym counts))
     (subst (λ q. IfRefused {T = T} (Err e) (λ y. (y ≡ refusal.Full (min pages 65535) (room (read_as q))) × (room (read_as q) < pages))) first
     (subst (λ y. IfRefused y (λ z. (z ≡ refusal.Full (min pages 65535) (room (read_as (pack mid)))) × (room (read_as (pack mid)) < pages))) was (full (subst Sound (sym first) right)))))
     (λ right. no_hint T (HintFailing p [] (files_touched l (read_as p) w)) e (subst (λ y. IfHint y (λ place number wanted there. ⊥)) was unmisled))

@@ -29,15 +29,15 @@ use Rattle.session_model.specs.Streams.{grows}
 use Rattle.session_model.specs.Worlds.{World}
 use Rattle.exec_session.specs.Meant.{IsTakenUpBy}
 use Rattle.exec_session.specs.declared.stop.Stop.{Stop}
-use Rattle.exec_session.specs.Asked.{MayGrowFile}
-use Rattle.exec_session.specs.Midway.{AreFree, Arrived, MayStart, Started, StepsOn}
+use Rattle.exec_steps.specs.Asked.{MayGrowFile}
+use Rattle.exec_steps.specs.Midway.{AreFree, Arrived, MayStart, Started, StepsOn}
 use Rattle.exec_writing.specs.Measured.{IsMeasured}
 use Rattle.exec_writing.specs.Writing.{WritesAll}
 use Rattle.exec_writing.specs.declared.measuring.Measured.{Measured}
 use Rattle.exec_writing.proofs.Lengths.{is_file, measured_length, model_length}
 use Rattle.exec_writing.proofs.Opening.{file_stands_still, opens_and_steps}
 use Rattle.exec_session.specs.laws_session.specs.RefusedLaws.{first_of}
-use Rattle.exec_writing.proofs.OrdinaryReasons.{has_room, lacks_room, none_streamed, operand_refused, operand_taken, room_comes, tests_of}
+use Rattle.exec_writing.proofs.OrdinaryReasons.{has_room, is_open, lacks_room, operand_refused, operand_taken, room_comes, streams_come, tests_of}
 use Rattle.exec_session.proofs.TakingUp.{typed_line}
 use Rattle.exec_writing.proofs.Touching.{named, touches_file}
 use Rattle.exec_writing.proofs.Turns.{AreOfALine, IsWriting, Plans}
@@ -80,7 +80,7 @@ of_a_line m f (b ∷ bytes) moment most = record {
 pub append_writes : (target : Target) (bytes : List ℕ) → IsWriting (line.Append target bytes)
 append_writes target bytes = record { world = λ m w. refl; quit = refl; scavenge = refl; needs = refl }
 
-module _ (p : Pack) (w : World) (target : Target) (bytes : List ℕ) (sound : Sound p) (none : w.streams ≡ []) (taken : IsTakenUpBy w (line.Append target bytes)) where
+module _ (p : Pack) (w : World) (target : Target) (bytes : List ℕ) (sound : Sound p) (taken : IsTakenUpBy w (line.Append target bytes)) where
   abbrev m : Model
   m = read_as p
 
@@ -106,19 +106,24 @@ module _ (p : Pack) (w : World) (target : Target) (bytes : List ℕ) (sound : So
     pages_come : pages_for_operations m (effect l m w).ops ≡ pages_added x.length (length bytes)
     pages_come = ap (pages_for_operations m) ops_are ∙ pages_are m x.file.fid bytes w.moment ∙ ap (λ b. pages_added b (length bytes)) long
 
-    pub append_full : room m < pages_added x.length (length bytes) → refusal_to l m w ≡ Some (refusal.Full (pages_added x.length (length bytes)) (room m))
-    append_full less =
+    pub append_streamed : is_streamed w (Some x.file.fid) ≡ true → refusal_to l m w ≡ Some refusal.StreamsOpen
+    append_streamed has =
         operand_taken l m w target None streams taken refl is.taken
-        ∙ room_comes None streams (by_room m (effect l m w).ops) refl (none_streamed w (file_at m target) none)
+        ∙ streams_come None streams (by_room m (effect l m w).ops) refusal.StreamsOpen refl (is_open w (file_at m target) x.file.fid true is.at.is has)
+
+    pub append_full : is_streamed w (Some x.file.fid) ≡ false → room m < pages_added x.length (length bytes) → refusal_to l m w ≡ Some (refusal.Full (pages_added x.length (length bytes)) (room m))
+    append_full none less =
+        operand_taken l m w target None streams taken refl is.taken
+        ∙ room_comes None streams (by_room m (effect l m w).ops) refl (is_open w (file_at m target) x.file.fid false is.at.is none)
         ∙ lacks_room m (effect l m w).ops (subst (λ n. room m < n) (sym pages_come) less)
         ∙ ap (λ n. Some (refusal.Full n (room m))) pages_come
 
-    pub append_plans : pages_added x.length (length bytes) ≤ room m → Plans m l w (appended_ops x.file.fid bytes w.moment) (length_text (x.length + length bytes)) (x.file.fid ∷ [])
-    append_plans most = record {
+    pub append_plans : is_streamed w (Some x.file.fid) ≡ false → pages_added x.length (length bytes) ≤ room m → Plans m l w (appended_ops x.file.fid bytes w.moment) (length_text (x.length + length bytes)) (x.file.fid ∷ [])
+    append_plans none most = record {
       answers = record {
         unrefused =
             operand_taken l m w target None streams taken refl is.taken
-            ∙ room_comes None streams (by_room m (effect l m w).ops) refl (none_streamed w (file_at m target) none)
+            ∙ room_comes None streams (by_room m (effect l m w).ops) refl (is_open w (file_at m target) x.file.fid false is.at.is none)
             ∙ has_room m (effect l m w).ops (subst (λ n. n ≤ room m) (sym pages_come) most);
         ops_are = ops_are;
         text_is = ap (λ n. length_text (n + length bytes)) (ap (length_of m) same ∙ long);

@@ -61,17 +61,17 @@ use Rattle.session_model.specs.Touched.{files_named, one_of}
 use Rattle.session_model.specs.Turning.{HintFailing, State, cue_files, typed}
 use Rattle.session_model.specs.Worlds.{World}
 use Rattle.exec_session.proofs.Finding.{contains_first, contains_second, hint_failing}
-use Rattle.exec_session.specs.Meant.{IfHint, IfRefused, IsSameButMark, IsSameButTable, IsTakenUpBy, Looked, kept, kept_stopped, stopped}
-use Rattle.exec_session.specs.Rooms.{pages_planned}
+use Rattle.exec_session.specs.Meant.{IfHint, IfRefused, IsTakenUpBy, Looked, kept, kept_stopped, stopped}
+use Rattle.exec_steps.specs.Asked.{IsSameButMark, IsSameButTable, Works, first_widenings, made_entered, made_fid}
+use Rattle.exec_steps.specs.Rooms.{pages_planned}
 use Rattle.exec_session.specs.Turned.{Begins, SameBut, Turned, line_ops}
-use Rattle.exec_session.specs.declared.rooms.NewEntry.{NewEntry}
+use Rattle.exec_steps.specs.declared.rooms.NewEntry.{NewEntry}
 use Rattle.exec_session.specs.declared.session.Session.{Session}
 use Rattle.exec_session.specs.declared.stop.Stop.{Stop}
-use Rattle.exec_session.proofs.Joining.{steps_err}
-use Rattle.exec_session.proofs.Stepping.{if_hint_weaker, steps_append}
-use Rattle.exec_session.proofs.laws.Laws.{line_stops, lines_break_off}
-use Rattle.exec_session.specs.Asked.{Works, first_widenings, made_entered, made_fid}
-use Rattle.exec_session.specs.Midway.{AreFree, Arrived, Midway, Started, Stepped, StepsOn}
+use Rattle.exec_steps.proofs.Joining.{steps_err}
+use Rattle.exec_steps.proofs.Stepping.{if_hint_weaker, steps_append}
+use Rattle.exec_steps.proofs.laws.Laws.{line_stops, lines_break_off}
+use Rattle.exec_steps.specs.Midway.{AreFree, Arrived, Midway, Started, Stepped, StepsOn}
 use Rattle.exec_writing.specs.Entries.{new_refusal}
 use Rattle.exec_writing.specs.Plans.{IsCopying, MayCopy, copied}
 use Rattle.exec_writing.specs.Writes.{WritesLine}
@@ -79,7 +79,7 @@ use Rattle.exec_writing.specs.declared.copy.Copying.{Copying}
 use Rattle.exec_writing.proofs.Adding.{are_free, begins_there, first_placed, may_make, unrefused_ops}
 use Rattle.exec_writing.proofs.Copying.{few_serials, unmarked}
 use Rattle.exec_writing.proofs.Ends.{files_are, stops_unwritten}
-use Rattle.exec_session.proofs.Frames.{world_worked}
+use Rattle.exec_steps.proofs.Frames.{world_worked}
 use Rattle.exec_writing.proofs.NamedEntries.{dir_is, dir_stands, given_is, ops_made, pages_made, states, widens_as_planned}
 use Rattle.exec_writing.proofs.NewSectors.{below_most, refused_then, serials_spent}
 use Rattle.exec_writing.proofs.NewPlaces.{names_place, names_source}
@@ -259,7 +259,7 @@ module _ (a b : Taped) (s0 s1 : Session) (s : State) (target : Target) (path : P
   -- hints alone are others, and a table that was true is true
   same_but : (TableTrue q s0.hints.table → TableTrue q s1.hints.table) → SameBut a b (kept s0) (kept s1)
   same_but table = record {
-    world = record { moment = ap (λ x. x.moment) same; level = ap (λ x. x.level) same; memory = ap (λ x. x.memory) same; before = refl; streams = refl; need = ap (λ x. x.need) same };
+    world = record { moment = ap (λ x. x.moment) same; level = ap (λ x. x.world.level) same; memory = ap (λ x. x.world.memory) same; streams = ap (λ x. x.streams.slots) same; need = ap (λ x. x.need) same };
     shape = ap (λ x. x.descriptor.shape) same;
     last = ap (λ x. x.descriptor.last) same;
     mark = ap (λ x. x.descriptor.mark) same;
@@ -398,7 +398,7 @@ module _ (a b : Taped) (s0 s1 : Session) (s : State) (target : Target) (path : P
             let done = steps_done b (kept s0) (kept s1) s own_line first_at fresh may c (kept s2) u started T d (kept s3) (sys_dir ∷ plan.entry.dir.fid ∷ f2 ∷ []) y (world_worked worked) next none_now (own_steps d s3 (Ok y) steps) in
             record {
               unrefused = none_now;
-              plain = looked_before a b d (kept s0) (kept s3) s own_line (plain_reply s (typed own_line)) alone next silent writes done.plain;
+              plain = λ form formed. looked_before a b d (kept s0) (kept s3) s own_line (plain_reply s (typed own_line)) alone next silent writes (done.plain form formed);
               memory = looked_before a b d (kept s0) (kept s3) s own_line reply.Memory alone next silent writes done.memory;
             }
         copying_ends T d s3 (Err x) worked next unrefused steps =

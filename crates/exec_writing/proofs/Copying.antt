@@ -27,13 +27,13 @@ use Rattle.session_model.specs.Effects.{copied_ops}
 use Rattle.session_model.specs.Keeping.{Kept}
 use Rattle.session_model.specs.Refusals.{most_serials}
 use Rattle.session_model.specs.Streams.{grows}
-use Rattle.exec_session.specs.Rooms.{pages_planned}
-use Rattle.exec_session.specs.declared.rooms.NewEntry.{NewEntry}
+use Rattle.exec_steps.specs.Rooms.{pages_planned}
+use Rattle.exec_steps.specs.declared.rooms.NewEntry.{NewEntry}
 use Rattle.exec_session.specs.declared.stop.Stop.{Stop}
-use Rattle.exec_session.proofs.Joining.{step_for, step_of_nothing, step_stops, steps_join}
-use Rattle.exec_session.proofs.Stepping.{free_left, steps_append}
-use Rattle.exec_session.specs.Asked.{IsFile, MayGrowFile, first_widenings, made_entered, made_fid, new_ref}
-use Rattle.exec_session.specs.Midway.{Arrived, Midway, StepsOn}
+use Rattle.exec_steps.proofs.Joining.{step_for, step_of_nothing, step_stops, steps_join}
+use Rattle.exec_steps.proofs.Stepping.{free_left, steps_append}
+use Rattle.exec_steps.specs.Asked.{IsFile, MayGrowFile, first_widenings, made_entered, made_fid, new_ref}
+use Rattle.exec_steps.specs.Midway.{Arrived, Midway, StepsOn}
 use Rattle.exec_writing.specs.Plans.{MayCopy, copied}
 
 -- ---- bytes and a date

@@ -1,5 +1,5 @@
 -- A file that is cut: the answer of the call, and its line by the model.
-use Rattle.std.proofs.Common.{◌≡◌, ◌≢◌, ◌≤◌, ◌<◌, ◌∙◌, ◌∷◌, ◌++◌, ◌==◌, ℕ, Bool, true, false, cond, Contains, List, [], length, Option, Some, Result, Ok, Err, arith, ap, refl, sym, subst}
+use Rattle.std.proofs.Common.{◌≡◌, ◌≢◌, ◌≤◌, ◌<◌, ◌∙◌, ◌∷◌, ◌++◌, ◌==◌, ℕ, Bool, true, false, cond, Contains, List, [], length, Option, Some, None, Result, Ok, Err, arith, ap, refl, sym, subst}
 use Rattle.std.proofs.lemmas.Bool.Decides.{nat_tests}
 use Rattle.alto_words.specs.declared.fid.Fid.{Fid}
 use Rattle.disk_records.specs.Packs.{Pack}
@@ -36,7 +36,7 @@ use Rattle.exec_session.specs.Meant.{IfHint, IsTakenUpBy}
 use Rattle.exec_session.specs.Stops.{stop_written}
 use Rattle.exec_session.specs.declared.stop.Stop.{Stop}
 use Rattle.exec_session.proofs.Finding.{contains_first}
-use Rattle.exec_session.specs.Midway.{Arrived, MayStart, Started, StepsOn}
+use Rattle.exec_steps.specs.Midway.{Arrived, MayStart, Started, StepsOn}
 use Rattle.exec_writing.specs.Cutting.{MayCutFile, cuts, cuts_and_stamps}
 use Rattle.exec_writing.specs.Writing.{WritesAll}
 use Rattle.exec_writing.specs.Measured.{IsMeasured}
@@ -44,7 +44,7 @@ use Rattle.exec_writing.specs.declared.measuring.Measured.{Measured}
 use Rattle.exec_writing.proofs.Lengths.{is_file, measured_length, model_length}
 use Rattle.exec_writing.proofs.Opening.{file_stands_still, opens_and_steps}
 use Rattle.exec_session.specs.laws_session.specs.RefusedLaws.{first_of}
-use Rattle.exec_writing.proofs.OrdinaryReasons.{beyond_comes, has_room, is_beyond, is_within, none_streamed, operand_refused, operand_taken, room_comes, tests_of}
+use Rattle.exec_writing.proofs.OrdinaryReasons.{beyond_comes, has_room, is_beyond, is_open, is_within, operand_refused, operand_taken, room_comes, streams_come, tests_of}
 use Rattle.exec_writing.proofs.Touching.{named, touches_file}
 use Rattle.exec_writing.proofs.Turns.{AreOfALine, IsWriting, Plans}
 
@@ -88,7 +88,7 @@ module _ (m : Model) (f : Fid) (n moment : ℕ) where
   of_a_line true = record { some = omega arith; kind = changes (stamp f moment ∷ []) (tt, tt); room = omega arith }
   of_a_line false = record { some = omega arith; kind = changes (cut f n ∷ stamp f moment ∷ []) (tt, (tt, tt)); room = omega arith }
 
-module _ (p : Pack) (w : World) (target : Target) (n : ℕ) (sound : Sound p) (none : w.streams ≡ []) (taken : IsTakenUpBy w (line.Cut target n)) where
+module _ (p : Pack) (w : World) (target : Target) (n : ℕ) (sound : Sound p) (taken : IsTakenUpBy w (line.Cut target n)) where
   abbrev m : Model
   m = read_as p
 
@@ -114,8 +114,16 @@ module _ (p : Pack) (w : World) (target : Target) (n : ℕ) (sound : Sound p) (n
         ∙ beyond_comes (refusal.Beyond x.length) beyond streams (by_room m (effect l m w).ops)
         (ap (λ r. when_found r (λ f. when_beyond (length_of m f) n)) is.at.is ∙ ap (λ b. when_beyond b n) long ∙ is_beyond x.length n less)
 
-    pub cut_plans : n ≤ x.length → Plans m l w (cuts_and_stamps x.file.fid x.length n w.moment) (length_text n) (x.file.fid ∷ [])
-    cut_plans most =
+    within : n ≤ x.length → beyond ≡ None
+    within most = ap (λ r. when_found r (λ f. when_beyond (length_of m f) n)) is.at.is ∙ ap (λ b. when_beyond b n) long ∙ is_within x.length n most
+
+    pub cut_streamed : n ≤ x.length → is_streamed w (Some x.file.fid) ≡ true → refusal_to l m w ≡ Some refusal.StreamsOpen
+    cut_streamed most has =
+        operand_taken l m w target beyond streams taken refl is.taken
+        ∙ streams_come beyond streams (by_room m (effect l m w).ops) refusal.StreamsOpen (within most) (is_open w (file_at m target) x.file.fid true is.at.is has)
+
+    pub cut_plans : n ≤ x.length → is_streamed w (Some x.file.fid) ≡ false → Plans m l w (cuts_and_stamps x.file.fid x.length n w.moment) (length_text n) (x.file.fid ∷ [])
+    cut_plans most none =
         let same : the_file m target ≡ x.file.fid = named m target x.file.fid is.at.is in
         let ops : (effect l m w).ops ≡ cuts_and_stamps x.file.fid x.length n w.moment = ap (λ f. cut_ops m f n w.moment) same ∙ ap (λ b. cuts_and_stamps x.file.fid b n w.moment) long in
         let fits : AreOfALine m (cuts_and_stamps x.file.fid x.length n w.moment) = of_a_line m x.file.fid n w.moment (n == x.length) in
@@ -123,9 +131,7 @@ module _ (p : Pack) (w : World) (target : Target) (n : ℕ) (sound : Sound p) (n
           answers = record {
             unrefused =
                 operand_taken l m w target beyond streams taken refl is.taken
-                ∙ room_comes beyond streams (by_room m (effect l m w).ops)
-                (ap (λ r. when_found r (λ f. when_beyond (length_of m f) n)) is.at.is ∙ ap (λ b. when_beyond b n) long ∙ is_within x.length n most)
-                (none_streamed w (file_at m target) none)
+                ∙ room_comes beyond streams (by_room m (effect l m w).ops) (within most) (is_open w (file_at m target) x.file.fid false is.at.is none)
                 ∙ has_room m (effect l m w).ops (subst (λ o. pages_for_operations m o ≤ room m) (sym ops) fits.room);
             ops_are = ops;
             text_is = refl;

@@ -16,7 +16,7 @@ use Rattle.pack_model.specs.reading.Model.{Model, read_as}
 use Rattle.pack_model.specs.states.Sound.{Sound}
 use Rattle.session_model.specs.Bounds.{DoneWithin}
 use Rattle.session_model.specs.Effects.{effect}
-use Rattle.session_model.specs.Keeping.{Keeping, world_of}
+use Rattle.session_model.specs.Keeping.{Formed, Keeping, world_of}
 use Rattle.session_model.specs.Refusals.{is_obeyed_in_need}
 use Rattle.session_model.specs.Replies.{refusal as refusal_to, unless_refused}
 use Rattle.session_model.specs.Touched.{files_touched}
@@ -133,7 +133,7 @@ stops_unfound {Z} old new one two l e r dropping told may about is finds = λ s 
 pub goes_on_found : {Z : Type 0} {told : Bool} {most : ℕ} (old mid new : Taped) (one two three : Session) (l : Line) (found : Found) (r : Result (Vec ℕ Z) Stop) → IsDropping l → IsTrue told → MayObey old one l → LooksAbout told most old mid one two → DiskAlone mid new
     → AreFormed (pack mid) → old.writes ≡ capped (writes_in old.events) → mid.writes ≡ capped (writes_in mid.events)
     → (Sound (pack old) → IsTakenUpBy (world_of (kept one)) l → FindsDropped (pack old) l (world_of (kept one)) (Ok found))
-    → ((s : State) → Begins mid (kept one) s l → SameBut mid mid (kept one) (kept two) → DropsFound s l found → MayDropFound (pack mid) found → Turned mid new (kept one) (kept_replied r (kept three)) s l (replied r))
+    → ((s : State) → Begins mid (kept one) s l → Formed mid.form (kept one) → SameBut mid mid (kept one) (kept two) → DropsFound s l found → MayDropFound (pack mid) found → Turned mid new (kept one) (kept_replied r (kept three)) s l (replied r))
     → TakesLine old new one three l r
 goes_on_found {told = told} old mid new one two three l found r dropping is_told may about alone formed first last finds turned = λ s keeping.
     let quiet : added old mid ≡ [] = about.looks.silent is_told in
@@ -149,7 +149,7 @@ goes_on_found {told = told} old mid new one two three l found r dropping is_told
       taken_up = taken old one l dropping may s keeping;
       full = λ i page e. formed_pages_have_256_words (pack mid) i page formed e;
     })
-    (same_but_looked mid mid about.looked refl) (drops old one l dropping may s keeping found is) (subst (λ p. MayDropFound p found) (sym here) is.may)))
+    (subst (λ f. Formed f (kept one)) (sym about.looks.alone.grown.form) may.formed) (same_but_looked mid mid about.looked refl) (drops old one l dropping may s keeping found is) (subst (λ p. MayDropFound p found) (sym here) is.may)))
     (λ handy none. few_none l dropping.bound (pack old) s.model (replied r) (new.runs - old.runs))
 
 -- ---- the two lines

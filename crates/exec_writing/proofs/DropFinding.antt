@@ -47,6 +47,7 @@ use Rattle.pack_model.specs.states.Sound.{Sound}
 use Rattle.session_model.specs.Finding.{dir_of, entry_in, entry_meant, file_at, fid_of, has_entry}
 use Rattle.session_model.specs.Effects.{effect}
 use Rattle.session_model.specs.Operands.{in_root}
+use Rattle.session_model.specs.Refusals.{is_streamed, when}
 use Rattle.session_model.specs.Replies.{refusal as refusal_to}
 use Rattle.session_model.specs.Touched.{dir_named, files_touched, one_of}
 use Rattle.session_model.specs.Turning.{HintFailing}
@@ -60,7 +61,7 @@ use Rattle.exec_session.specs.Stops.{refused_if, stop_of_list}
 use Rattle.exec_session.specs.declared.operands.Found.{Found}
 use Rattle.exec_session.specs.declared.stop.Stop.{Stop}
 use Rattle.exec_session.specs.declared.stop.Stop.TheVariants as stop
-use Rattle.exec_writing.proofs.DropReasons.{delete_refused, entries_among, entries_refused, no_directory_refused, nothing_refused, removed_absent, removed_tests, rmdir_refused, system_refused}
+use Rattle.exec_writing.proofs.DropReasons.{delete_refused, delete_unrefused, entries_among, entries_refused, no_directory_refused, nothing_refused, removed_absent, removed_tests, rmdir_refused, system_refused}
 use Rattle.exec_writing.specs.Drops.{FindsDropped, IsDropped}
 use Rattle.exec_writing.specs.Dropping.{HasEntries, MayDropFound}
 
@@ -197,12 +198,12 @@ no_system_file f ordinary other = by (is_fid f sys_dir) (is_fid f disk_descripto
     by true b d e = cc
     by false true d e = cc
 
-module _ (p : Pack) (w : World) (path : Path) (streams : w.streams ≡ []) (taken : IsTakenUpBy w (line.Delete path)) where
+module _ (p : Pack) (w : World) (path : Path) (taken : IsTakenUpBy w (line.Delete path)) where
   abbrev deleted : Line
   deleted = line.Delete path
 
   pub delete_absent : file_at (read_as p) (ByPath path) ≡ None → refusal_to deleted (read_as p) w ≡ Some refusal.NoSuchName
-  delete_absent none = delete_refused (read_as p) w path streams taken ∙ absent_refused p (ByPath path) none
+  delete_absent none = delete_refused (read_as p) w path taken refusal.NoSuchName (absent_refused p (ByPath path) none)
 
   module _ (found : Found) (sound : Sound p) (at : IsAtPath p path found) where
     abbrev f : Fid
@@ -213,18 +214,29 @@ module _ (p : Pack) (w : World) (path : Path) (streams : w.streams ≡ []) (take
 
     pub delete_directory : is_directory f ≡ true → refusal_to deleted (read_as p) w ≡ Some refusal.IsADirectory
     delete_directory directory =
-        delete_refused (read_as p) w path streams taken
-        ∙ directory_refused p (ByPath path) f sound is {U = Unit {0}} (stop.Refused refusal.IsADirectory) (Err (stop.Refused refusal.IsADirectory)) (sym (ap (λ b. refused_if b refusal.IsADirectory) directory)) refl
+        delete_refused (read_as p) w path taken refusal.IsADirectory
+        (directory_refused p (ByPath path) f sound is {U = Unit {0}} (stop.Refused refusal.IsADirectory) (Err (stop.Refused refusal.IsADirectory)) (sym (ap (λ b. refused_if b refusal.IsADirectory) directory)) refl)
 
     pub delete_descriptor : is_directory f ≡ false → is_fid f disk_descriptor ≡ true → refusal_to deleted (read_as p) w ≡ Some refusal.SystemFile
     delete_descriptor ordinary descriptor =
-        delete_refused (read_as p) w path streams taken
-        ∙ descriptor_refused p (ByPath path) f sound is {U = Unit {0}} tt (stop.Refused refusal.SystemFile) (Err (stop.Refused refusal.SystemFile)) (sym (ap (λ b. refused_if b refusal.IsADirectory) ordinary)) (sym (ap (λ b. refused_if b refusal.SystemFile) descriptor)) refl
+        delete_refused (read_as p) w path taken refusal.SystemFile
+        (descriptor_refused p (ByPath path) f sound is {U = Unit {0}} tt (stop.Refused refusal.SystemFile) (Err (stop.Refused refusal.SystemFile)) (sym (ap (λ b. refused_if b refusal.IsADirectory) ordinary)) (sym (ap (λ b. refused_if b refusal.SystemFile) descriptor)) refl)
 
-    pub delete_found : is_directory f ≡ false → is_fid f disk_descriptor ≡ false → IsDropped p deleted w found
-    delete_found ordinary other =
+    -- its operand is taken
+    by_streams : is_directory f ≡ false → is_fid f disk_descriptor ≡ false → (b : Bool) → is_streamed w (Some f) ≡ b → refusal_to deleted (read_as p) w ≡ when b refusal.StreamsOpen
+    by_streams ordinary other b has =
+        delete_unrefused (read_as p) w path taken
+        (none_refused p (ByPath path) f sound is tt tt (sym (ap (λ c. refused_if c refusal.IsADirectory) ordinary)) (sym (ap (λ c. refused_if c refusal.SystemFile) other)))
+        ∙ ap (λ r. when (is_streamed w r) refusal.StreamsOpen) is
+        ∙ ap (λ c. when c refusal.StreamsOpen) has
+
+    pub delete_streamed : is_directory f ≡ false → is_fid f disk_descriptor ≡ false → is_streamed w (Some f) ≡ true → refusal_to deleted (read_as p) w ≡ Some refusal.StreamsOpen
+    delete_streamed ordinary other has = by_streams ordinary other true has
+
+    pub delete_found : is_directory f ≡ false → is_fid f disk_descriptor ≡ false → is_streamed w (Some f) ≡ false → IsDropped p deleted w found
+    delete_found ordinary other none =
         is_dropped p deleted w path found sound at refl refl (no_system_file f ordinary other) (ordinary_file_is_bare p f sound.tidy ordinary)
-        (delete_refused (read_as p) w path streams taken ∙ none_refused p (ByPath path) f sound is tt tt (sym (ap (λ b. refused_if b refusal.IsADirectory) ordinary)) (sym (ap (λ b. refused_if b refusal.SystemFile) other)))
+        (by_streams ordinary other false none)
 
 -- ---- `rmdir`
 is_dir : (b : Bool) → not b ≡ false → b ≡ true

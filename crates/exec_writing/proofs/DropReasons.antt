@@ -1,5 +1,5 @@
--- What `delete` and `rmdir` are refused for: the tests of their operand, in their order, and nothing else.
-use Rattle.std.proofs.Common.{◌≡◌, ◌||◌, ◌∷◌, ◌∙◌, Bool, List, None, Option, Some, [], ap, arith, false, length, nat_lt, not, refl, true, ℕ}
+-- What `delete` and `rmdir` are refused for: the tests of their operand, in their order, then of `delete` the streams, and nothing else.
+use Rattle.std.proofs.Common.{◌≡◌, ◌||◌, ◌∷◌, ◌∙◌, Bool, List, None, Option, Some, [], arith, false, length, nat_lt, not, refl, true, ℕ}
 use Rattle.std.proofs.lemmas.Bool.{le-ltb, lt-ltb}
 use Rattle.std.specs.List.{list_any}
 use Rattle.std.specs.Option.{option_or}
@@ -10,8 +10,8 @@ use Rattle.exec_words.specs.declared.line.Path.{Path}
 use Rattle.exec_words.specs.declared.line.Target.TheVariants.{ByPath}
 use Rattle.exec_words.specs.declared.reply.Refusal.{Refusal}
 use Rattle.exec_words.specs.declared.reply.Refusal.TheVariants as refusal
-use Rattle.exec_session.specs.laws_session.proofs.refused.Laws.{refused_by_tests}
-use Rattle.exec_session.specs.laws_session.specs.RefusedLaws.{first_of}
+use Rattle.exec_session.specs.laws_session.proofs.refused.Laws.{refused_by_tests, refused_in_order}
+use Rattle.exec_session.specs.laws_session.specs.RefusedLaws.{IsRefusedInOrder, first_of}
 use Rattle.laws_lookup.specs.DropLaws.{is_an_entry}
 use Rattle.pack_model.specs.reading.Files.{first}
 use Rattle.pack_model.specs.reading.Model.{Model, room}
@@ -26,38 +26,47 @@ use Rattle.session_model.specs.Worlds.{World}
 use Rattle.exec_session.specs.Found.{operand, operand_tests}
 use Rattle.exec_session.specs.Meant.{IsTakenUpBy}
 
--- no stream is open, and no page comes
-others_none : (m : Model) (streamed : Bool) → streamed ≡ false → first_of (None ∷ None ∷ None ∷ when streamed refusal.StreamsOpen ∷ None ∷ None ∷ None ∷ when (nat_lt (room m) 0) (refusal.Full 0 (room m)) ∷ []) ≡ None
+-- after the operand streams alone may be against them, since no page comes
+streams_alone : (m : Model) (streamed : Bool) → first_of (None ∷ None ∷ None ∷ when streamed refusal.StreamsOpen ∷ None ∷ None ∷ None ∷ when (nat_lt (room m) 0) (refusal.Full 0 (room m)) ∷ []) ≡ when streamed refusal.StreamsOpen
 unfolding first
-others_none m streamed still = by streamed (nat_lt (room m) 0) still (le-ltb (room m) 0 (omega arith))
+streams_alone m streamed = by streamed (nat_lt (room m) 0) (le-ltb (room m) 0 (omega arith))
   where
-    by : (b few : Bool) → b ≡ false → few ≡ false → first_of (None ∷ None ∷ None ∷ when b refusal.StreamsOpen ∷ None ∷ None ∷ None ∷ when few (refusal.Full 0 (room m)) ∷ []) ≡ None
-    by false false d e = refl
-    by true few d e = cc
-    by false true d e = cc
+    by : (b few : Bool) → few ≡ false → first_of (None ∷ None ∷ None ∷ when b refusal.StreamsOpen ∷ None ∷ None ∷ None ∷ when few (refusal.Full 0 (room m)) ∷ []) ≡ when b refusal.StreamsOpen
+    by false false e = refl
+    by true few e = refl
+    by false true e = absurd (let n : true ≡ false = e in cc)
 
-more_none : (m : Model) (a b : Option Refusal) (streamed : Bool) → a ≡ None → b ≡ None → streamed ≡ false → first_of (a ∷ b ∷ None ∷ None ∷ None ∷ when streamed refusal.StreamsOpen ∷ None ∷ None ∷ None ∷ when (nat_lt (room m) 0) (refusal.Full 0 (room m)) ∷ []) ≡ None
+streams_after : (m : Model) (a b : Option Refusal) (streamed : Bool) → a ≡ None → b ≡ None → first_of (a ∷ b ∷ None ∷ None ∷ None ∷ when streamed refusal.StreamsOpen ∷ None ∷ None ∷ None ∷ when (nat_lt (room m) 0) (refusal.Full 0 (room m)) ∷ []) ≡ when streamed refusal.StreamsOpen
 unfolding first
-more_none m None None streamed e f still = others_none m streamed still
-more_none m (Some r) b streamed e f still = absurd (let n : Some r ≡ None = e in cc)
-more_none m None (Some r) streamed e f still = absurd (let n : Some r ≡ None = f in cc)
+streams_after m None None streamed e f = streams_alone m streamed
+streams_after m (Some r) b streamed e f = absurd (let n : Some r ≡ None = e in cc)
+streams_after m None (Some r) streamed e f = absurd (let n : Some r ≡ None = f in cc)
 
 -- ---- `delete`
-unstreamed : (w : World) (r : Option Fid) → w.streams ≡ [] → is_streamed w r ≡ false
-unstreamed w None none = refl
-unstreamed w (Some f) none = ap (list_any (λ s. is_fid s.fid f)) none
-
 left_none : (m : Model) (r : Option Fid) → when_found r (left_in m no_directory) ≡ None
 left_none m None = refl
 left_none m (Some f) = refl
 
-pub delete_refused : (m : Model) (w : World) (path : Path) → w.streams ≡ [] → IsTakenUpBy w (line.Delete path) → refusal_to (line.Delete path) m w ≡ first_of (operand_tests m (operand (ByPath path) no_directory))
-delete_refused m w path none taken =
-    let o = operand (ByPath path) no_directory in
-    let streamed = is_streamed w (file_at m (ByPath path)) in
-    refused_by_tests (line.Delete path) m w (operand_tests m o)
-    (of_taken_name m o ∷ not_empty m o ∷ None ∷ None ∷ None ∷ when streamed refusal.StreamsOpen ∷ None ∷ None ∷ None ∷ when (nat_lt (room m) 0) (refusal.Full 0 (room m)) ∷ []) taken refl
-    (more_none m (of_taken_name m o) (not_empty m o) streamed refl (left_none m (file_at m (ByPath path))) (unstreamed w (file_at m (ByPath path)) none))
+module _ (m : Model) (w : World) (path : Path) (taken : IsTakenUpBy w (line.Delete path)) where
+  abbrev o : Operand
+  o = operand (ByPath path) no_directory
+
+  abbrev streamed : Bool
+  streamed = is_streamed w (file_at m (ByPath path))
+
+  abbrev others : List (Option Refusal)
+  others = of_taken_name m o ∷ not_empty m o ∷ None ∷ None ∷ None ∷ when streamed refusal.StreamsOpen ∷ None ∷ None ∷ None ∷ when (nat_lt (room m) 0) (refusal.Full 0 (room m)) ∷ []
+
+  deletes_in_order : IsRefusedInOrder (line.Delete path) m w (operand_tests m o) others
+  deletes_in_order = refused_in_order (line.Delete path) m w (operand_tests m o) others taken refl
+
+  -- by its operand
+  pub delete_refused : (r : Refusal) → first_of (operand_tests m o) ≡ Some r → refusal_to (line.Delete path) m w ≡ Some r
+  delete_refused r e = deletes_in_order.here r e
+
+  -- or by the streams
+  pub delete_unrefused : first_of (operand_tests m o) ≡ None → refusal_to (line.Delete path) m w ≡ when streamed refusal.StreamsOpen
+  delete_unrefused e = deletes_in_order.later e ∙ streams_after m (of_taken_name m o) (not_empty m o) streamed refl (left_none m (file_at m (ByPath path)))
 
 -- ---- `rmdir`
 abbrev removed_operand : List ℕ → Operand
@@ -78,7 +87,7 @@ rmdir_refused m w name taken =
     let o = removed_operand name in
     refused_by_tests (line.RemoveDir name) m w (missing m o ∷ of_wrong_kind m o ∷ of_system m o ∷ of_taken_name m o ∷ not_empty m o ∷ [])
     (None ∷ None ∷ None ∷ when false refusal.StreamsOpen ∷ None ∷ None ∷ None ∷ when (nat_lt (room m) 0) (refusal.Full 0 (room m)) ∷ []) taken refl
-    (others_none m false refl)
+    (streams_alone m false)
 
 pub removed_absent : (m : Model) → removed_tests m None ≡ Some refusal.NoSuchName
 unfolding first

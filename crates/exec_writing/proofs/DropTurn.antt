@@ -1,5 +1,5 @@
 -- A line that opens the mark and drops one file, as a turn.
-use Rattle.std.proofs.Common.{◌≡◌, ◌≢◌, ◌<◌, ◌∙◌, All, AllPairs, Contains, Err, List, Ok, Result, Some, [], ◌∷◌, ap, arith, length, refl, subst, sym, suc, true, zero, ℕ}
+use Rattle.std.proofs.Common.{◌≡◌, ◌≢◌, ◌<◌, ◌∙◌, All, AllPairs, Contains, Err, List, Ok, Result, Some, [], ◌∷◌, ap, arith, length, subst, sym, suc, true, zero, ℕ}
 use Rattle.std.specs.List.{slice_get}
 use Rattle.alto_words.specs.Fid.{disk_descriptor}
 use Rattle.alto_words.specs.declared.fid.Fid.{Fid}
@@ -22,7 +22,7 @@ use Rattle.pack_model.specs.reading.Sights.{sights}
 use Rattle.pack_model.specs.sessions.Descriptor.{DescriptorFits}
 use Rattle.pack_model.specs.states.Sound.{Sound}
 use Rattle.exec_session.specs.laws_midway.proofs.found.Laws.{found_file_lives}
-use Rattle.session_model.specs.Keeping.{Kept}
+use Rattle.session_model.specs.Keeping.{Formed, Kept}
 use Rattle.session_model.specs.Turning.{State, cue_files, typed}
 use Rattle.exec_session.specs.Meant.{IfRefused, kept, kept_stopped, stopped}
 use Rattle.exec_session.specs.Turned.{Begins, SameBut, SameWorld, Turned, line_ops}
@@ -30,11 +30,13 @@ use Rattle.exec_session.specs.declared.operands.Found.{Found}
 use Rattle.exec_session.specs.declared.session.Session.{Session}
 use Rattle.exec_session.specs.declared.stop.Stop.{Stop}
 use Rattle.exec_session.specs.declared.stop.Stop.TheVariants as stop
-use Rattle.exec_session.specs.Asked.{Works}
-use Rattle.exec_session.specs.Lines.{BreaksOff}
-use Rattle.exec_session.specs.Midway.{MayStart, Midway, Started, Stepped, StepsOn}
-use Rattle.exec_session.proofs.Stepping.{if_hint_weaker}
-use Rattle.exec_session.proofs.laws.Laws.{line_is_done, line_stops, lines_break_off}
+use Rattle.exec_steps.specs.Asked.{Works}
+use Rattle.exec_steps.specs.Lines.{BreaksOff}
+use Rattle.exec_steps.specs.Midway.{MayStart, Midway, Started, Stepped, StepsOn}
+use Rattle.exec_steps.proofs.Stepping.{if_hint_weaker}
+use Rattle.exec_steps.proofs.laws.Laws.{line_stops, lines_break_off}
+use Rattle.exec_session.specs.laws_steps.specs.LineKeepingLaws.{KeepsFound}
+use Rattle.exec_writing.proofs.Streamed.{found_later, line_ends}
 use Rattle.exec_writing.specs.Drops.{DropsFound}
 use Rattle.exec_writing.specs.Dropping.{MayDropFound}
 
@@ -42,10 +44,9 @@ use Rattle.exec_writing.specs.Dropping.{MayDropFound}
 world_worked : (one : Kept) (s t : Session) → SameWorld one (kept s) → Works s t → SameWorld one (kept t)
 world_worked one s t same works = record {
   moment = works.moment ∙ same.moment;
-  level = works.level ∙ same.level;
-  memory = works.memory ∙ same.memory;
-  before = same.before;
-  streams = refl;
+  level = ap (λ x. x.level) works.world ∙ same.level;
+  memory = ap (λ x. x.memory) works.world ∙ same.memory;
+  streams = ap (λ x. x.slots) works.streams ∙ same.streams;
   need = works.need ∙ same.need;
 }
 
@@ -176,5 +177,8 @@ module _ (a : Taped) (one : Kept) (s0 : Session) (s : State) (l : Line) (found :
             line_stops a c one (kept s2) s l stop.Memory begins world alone
             (breaks.later c (kept s2) starts_at (drop_file f ∷ []) [] [] (Err stop.Memory) line_fits (sym drops.ops) (stepped (Ok y) steps).midway) tt tt
 
-        pub dropped : (text : List ℕ) → text ≡ done_text → Turned a c one (kept s2) s l (reply.Done text)
-        dropped text is = subst (Turned a c one (kept s2) s l) (drops.says ∙ ap reply.Done (sym is)) (line_is_done a c one (kept s2) s l starts_at begins drops.leaves world line_fits all_done)
+        found_still : KeepsFound (pack a) (pack c) (line_ops s l)
+        found_still = subst (KeepsFound (pack a) (pack c)) (sym drops.ops) (found_later a b c (drop_file f ∷ []) (Ok y) opened.reads started.found (stepped (Ok y) steps).found)
+
+        pub dropped : Formed a.form one → (text : List ℕ) → text ≡ done_text → Turned a c one (kept s2) s l (reply.Done text)
+        dropped formed text is = subst (Turned a c one (kept s2) s l) (drops.says ∙ ap reply.Done (sym is)) (line_ends a c one (kept s2) s l starts_at begins drops.leaves world a.form formed line_fits found_still all_done)

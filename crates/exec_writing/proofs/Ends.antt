@@ -23,7 +23,7 @@ use Rattle.session_model.specs.Replies.{refusal as refusal_to, unless_refused}
 use Rattle.session_model.specs.Touched.{files_named, files_touched}
 use Rattle.session_model.specs.Turning.{HintFailing, IsTakenUp, State, cue_files, is_quit, is_scavenge, typed}
 use Rattle.session_model.specs.Worlds.{World}
-use Rattle.exec_session.proofs.Looking.{same_but_looked}
+use Rattle.exec_session.proofs.Looking.{same_but_looked, stays_looked}
 use Rattle.exec_session.proofs.Stopping.{error_is}
 use Rattle.exec_session.proofs.TakingUp.{few_none, goes_on, need_none, plain_text}
 use Rattle.exec_session.proofs.Turning.{line_is_refused, line_stops_unwritten, turned_is_a_turn}
@@ -138,7 +138,7 @@ module _ {told : Bool} {most : ℕ} (old mid new : Taped) (zero one two : Sessio
 
   -- its text is made
   pub writing_done : {Z : Type 0} (text : Vec ℕ Z) → ((s : State) → Begins mid (kept one) s l → IsWritten mid new (kept one) (kept two) s l) → ((s : State) → Begins mid (kept one) s l → text.items ≡ (effect l s.model s.world).text) → TakesLine old new zero two l (Ok text)
-  writing_done text h says = writing_ends (Ok text) (λ s b. subst (Turned mid new (kept one) (kept two) s l) (plain_text l s on.quit (h s b).unrefused ∙ ap reply.Done (sym (says s b))) (h s b).plain)
+  writing_done text h says = writing_ends (Ok text) (λ s b. subst (Turned mid new (kept one) (kept two) s l) (plain_text l s on.quit (h s b).unrefused ∙ ap reply.Done (sym (says s b))) ((h s b).plain mid.form (stays_looked old mid about.looked about.looks.alone.grown.form may.formed).formed))
 
 -- ---- what is known as it begins
 begins_needless : {t : Taped} {k : Kept} {s : State} {l : Line} → Begins t k s l → s.world.need ≡ false

@@ -23,7 +23,7 @@ use Rattle.pack_model.specs.sessions.Descriptor.{opened_value}
 use Rattle.pack_model.specs.states.Sound.{mark_of, mark_open}
 use Rattle.pack_model.specs.states.Whole.{Whole}
 use Rattle.session_model.specs.Keeping.{Kept}
-use Rattle.exec_session.specs.Midway.{Midway}
+use Rattle.exec_steps.specs.Midway.{Midway}
 
 -- ---- the opening leaves all files but DiskDescriptor
 others_here : (f : Fid) (p : Pack) → LeavesOthers f p p

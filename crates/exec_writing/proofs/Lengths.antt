@@ -12,7 +12,7 @@ use Rattle.pack_model.specs.reading.Files.{lives}
 use Rattle.pack_model.specs.reading.Model.{read_as}
 use Rattle.pack_model.specs.reading.Sights.{sights}
 use Rattle.pack_model.specs.states.Sound.{Sound}
-use Rattle.exec_session.specs.Asked.{IsFile}
+use Rattle.exec_steps.specs.Asked.{IsFile}
 use Rattle.exec_writing.specs.Measured.{IsMeasured}
 use Rattle.exec_writing.specs.declared.measuring.Measured.{Measured}
 

@@ -33,6 +33,7 @@ pub mod Required
 mod Reserved
 pub mod Sorts
 mod Stamping
+mod Streamed
 mod Touching
 mod Turns
 pub mod Writing

@@ -42,10 +42,10 @@ use Rattle.session_model.specs.Worlds.{World}
 use Rattle.exec_session.proofs.Finding.{contains_first, contains_second, dir_found}
 use Rattle.exec_session.specs.Found.{root_ref}
 use Rattle.exec_session.specs.Meant.{IsTakenUpBy}
-use Rattle.exec_session.specs.Rooms.{IsPlanned, pages_planned, widens_if}
+use Rattle.exec_steps.specs.Rooms.{IsPlanned, pages_planned, widens_if}
 use Rattle.exec_session.specs.Turned.{Begins}
-use Rattle.exec_session.specs.declared.rooms.NewEntry.{NewEntry}
-use Rattle.exec_session.specs.Asked.{first_widenings, made_entered}
+use Rattle.exec_steps.specs.declared.rooms.NewEntry.{NewEntry}
+use Rattle.exec_steps.specs.Asked.{first_widenings, made_entered}
 use Rattle.exec_writing.proofs.Adding.{root_stands}
 use Rattle.exec_writing.proofs.Ends.{IsOnFiles, begins_sound}
 use Rattle.exec_session.specs.laws_session.specs.RefusedLaws.{first_of}
@@ -61,9 +61,6 @@ path_tests m d f t = first_of (
     ∷ when t refusal.NameTaken
     ∷ when_found f (left_in m new_file)
     ∷ [])
-
-path_operand : (m : Model) (path : Path) → first_of (by_operands (line.Make path) m) ≡ path_tests m (dir_of m path.dir) (file_at m (ByPath path)) (is_path_taken m path)
-path_operand m path = refl
 
 none_there : (m : Model) (f : Option Fid) (t : Bool) → path_tests m None f t ≡ Some refusal.NoSuchName
 unfolding first
@@ -125,8 +122,8 @@ dir_stands p dir sound from directory =
 -- ---- what is planned, by the model
 pub widens_as_planned : (p : Pack) (dir : FileRef) (name : List ℕ) (e : NewEntry) → IsPlanned p dir name e → first_widenings e ≡ widenings (read_as p) e.dir.fid e.name
 widens_as_planned p dir name e planned =
-    ap (λ (d : FileRef). widens_if e.spare sys_dir ++ widens_if e.room d.fid) planned.dir_is
-    ∙ ap₂ (λ (a b : List Operation). a ++ b) (sym planned.spare) (sym planned.room)
+    ap (λ (d : FileRef). widens_if e.widens_root sys_dir ++ widens_if e.widens_dir d.fid) planned.dir_is
+    ∙ ap₂ (λ (a b : List Operation). a ++ b) (sym planned.widens_root) (sym planned.widens_dir)
     ∙ ap₂ (λ (d : FileRef) n. widenings (read_as p) d.fid n) (sym planned.dir_is) (sym planned.name_is)
 
 -- the operations of a new file
@@ -134,7 +131,7 @@ pub ops_made : (m : Model) (e : NewEntry) (f d : Fid) (n : List ℕ) (moment : �
 ops_made m e f d n moment dir name planned = ap₂ (λ x y. new_file_ops m x y f moment) dir name ∙ ap (λ o. o ++ make f e.name moment ∷ enter e.dir.fid e.name f ∷ []) (sym planned)
 
 pub pages_made : (m : Model) (e : NewEntry) (f : Fid) (moment : ℕ) → pages_for_operations m (made_entered e f moment) ≡ pages_planned e + 2
-pages_made m e f moment = by e.spare e.room
+pages_made m e f moment = by e.widens_root e.widens_dir
   where
     by : (a b : Bool) → pages_for_operations m ((widens_if a sys_dir ++ widens_if b e.dir.fid) ++ make f e.name moment ∷ enter e.dir.fid e.name f ∷ []) ≡ cond a 1 0 + cond b 1 0 + 2
     by true true = refl

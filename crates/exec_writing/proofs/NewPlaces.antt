@@ -22,7 +22,7 @@ use Rattle.exec_session.proofs.Finding.{contains_first}
 use Rattle.exec_session.specs.Found.{IsDirOf}
 use Rattle.exec_session.specs.NewNames.{IsTaken}
 use Rattle.exec_session.specs.Stops.{refused_for}
-use Rattle.exec_session.specs.declared.rooms.NewEntry.{NewEntry}
+use Rattle.exec_steps.specs.declared.rooms.NewEntry.{NewEntry}
 use Rattle.exec_session.specs.declared.stop.Stop.{Stop}
 use Rattle.exec_session.specs.declared.stop.Stop.TheVariants as stop
 use Rattle.exec_writing.specs.Entries.{IsNewEntry}

@@ -7,8 +7,8 @@ use Rattle.exec_words.specs.declared.reply.Refusal.{Refusal}
 use Rattle.exec_words.specs.declared.reply.Refusal.TheVariants as refusal
 use Rattle.session_model.specs.Refusals.{most_serials, when}
 use Rattle.exec_session.specs.Meant.{IfRefused}
-use Rattle.exec_session.specs.Rooms.{one_if, pages_planned}
-use Rattle.exec_session.specs.declared.rooms.NewEntry.{NewEntry}
+use Rattle.exec_steps.specs.Rooms.{one_if, pages_planned}
+use Rattle.exec_steps.specs.declared.rooms.NewEntry.{NewEntry}
 use Rattle.exec_session.specs.declared.stop.Stop.{Stop}
 use Rattle.exec_session.specs.declared.stop.Stop.TheVariants as stop
 use Rattle.exec_writing.specs.Entries.{new_refusal}
@@ -19,7 +19,7 @@ few_if true = omega arith
 few_if false = omega arith
 
 pub few_planned : (e : NewEntry) → pages_planned e ≤ 2
-few_planned e = let a = few_if e.spare in let b = few_if e.room in omega (arith, a, b)
+few_planned e = let a = few_if e.widens_root in let b = few_if e.widens_dir in omega (arith, a, b)
 
 -- ---- by the tests
 pub below_most : (last : ℕ) → nat_le most_serials last ≡ false → last < most_serials

@@ -55,7 +55,7 @@ use Rattle.exec_session.specs.Meant.{IfHint}
 use Rattle.exec_session.specs.Stops.{stop_entered, stop_writing, stop_written}
 use Rattle.exec_session.specs.declared.stop.Stop.{Stop}
 use Rattle.exec_session.specs.declared.stop.Stop.TheVariants as stop
-use Rattle.exec_session.proofs.Counting.{first_few, obeys_many}
+use Rattle.exec_steps.proofs.Counting.{first_few, obeys_many}
 use Rattle.exec_writing.proofs.EntryFound.{IsFoundBy}
 
 -- ---- the answer of the second call

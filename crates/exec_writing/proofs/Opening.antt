@@ -19,10 +19,11 @@ use Rattle.exec_session.specs.Turned.{Begins, line_ops}
 use Rattle.exec_session.specs.declared.stop.Stop.{Stop}
 use Rattle.exec_session.specs.declared.stop.Stop.TheVariants as stop
 use Rattle.exec_session.proofs.Stopping.{error_is}
-use Rattle.exec_session.specs.Asked.{IsFile}
-use Rattle.exec_session.specs.Lines.{BrokeOff}
-use Rattle.exec_session.specs.Midway.{Arrived, MayStart, Midway, Started, Stepped, StepsOn}
-use Rattle.exec_session.proofs.laws.Laws.{lines_break_off}
+use Rattle.exec_steps.specs.Asked.{IsFile}
+use Rattle.exec_steps.specs.Lines.{BrokeOff}
+use Rattle.exec_steps.specs.Midway.{Arrived, MayStart, Midway, Started, Stepped, StepsOn}
+use Rattle.exec_steps.proofs.laws.Laws.{lines_break_off}
+use Rattle.exec_writing.proofs.Streamed.{found_later}
 use Rattle.exec_writing.specs.Writing.{WritesAll}
 
 -- ---- a file that was found, after some steps
@@ -48,6 +49,7 @@ stopped_opening old new before after ops reserved files error starts = λ one at
     let started = starts one at may in
     record {
       done = tt;
+      found = tt;
       broke = λ s l begins is fits. (lines_break_off (Unit {0}) old one s l begins).opening new after at reserved error (subst (LineFits (pack old) at) (sym is) fits) started;
       failing = no_hint error old new files started.failing;
     }
@@ -76,4 +78,4 @@ module _ (old mid new : Taped) (before between after : Kept) (o : Operation) (mo
       let m : Midway old mid one between at [] ops (reserved ++ []) = subst (λ l. Midway old mid one between at [] ops l) (sym (append-nil reserved)) (started.midway o more) in
       let arrived : Arrived (pack old) (pack mid) between [] (reserved ++ []) = record { whole = m.whole; tidy = m.tidy; reads = m.reads; fits = m.fits; found = started.found; free = m.free } in
       let st : Stepped old mid new one after at [] ops ops [] files result = steps arrived old one at [] ops [] m in
-      record { done = st.midway; broke = broke_in_step one at result st; failing = st.failing }
+      record { done = st.midway; found = found_later old mid new ops result m.reads started.found st.found; broke = broke_in_step one at result st; failing = st.failing }

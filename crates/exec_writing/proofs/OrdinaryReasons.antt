@@ -1,5 +1,5 @@
 -- What lines with one operand that has to be an ordinary file are refused for: the tests of the operand, and then their own.
-use Rattle.std.proofs.Common.{◌≡◌, ◌<◌, ◌≤◌, ◌∙◌, ℕ, List, [], ◌∷◌, ◌++◌, Option, Some, None, refl, ap}
+use Rattle.std.proofs.Common.{◌≡◌, ◌<◌, ◌≤◌, ◌∙◌, ℕ, Bool, List, [], ◌∷◌, ◌++◌, Option, Some, None, refl, ap}
 use Rattle.std.proofs.lemmas.Bool.{le-ltb, lt-ltb}
 use Rattle.alto_words.specs.declared.fid.Fid.{Fid}
 use Rattle.exec_words.specs.declared.line.Line.{Line}
@@ -63,6 +63,13 @@ unfolding first
 beyond_comes r (Some x) streams by_room e = e
 beyond_comes r None streams by_room e = absurd (let n : None ≡ Some r = e in cc)
 
+-- that of streams, after it
+pub streams_come : (beyond streams by_room : Option Refusal) (r : Refusal) → beyond ≡ None → streams ≡ Some r → first_of (None ∷ beyond ∷ None ∷ streams ∷ None ∷ None ∷ None ∷ by_room ∷ []) ≡ Some r
+unfolding first
+streams_come None (Some x) by_room r e f = f
+streams_come None None by_room r e f = absurd (let n : None ≡ Some r = f in cc)
+streams_come (Some x) streams by_room r e f = absurd (let n : Some x ≡ None = e in cc)
+
 -- that of room, after the others
 pub room_comes : (beyond streams by_room : Option Refusal) → beyond ≡ None → streams ≡ None → first_of (None ∷ beyond ∷ None ∷ streams ∷ None ∷ None ∷ None ∷ by_room ∷ []) ≡ by_room
 unfolding first
@@ -71,10 +78,9 @@ room_comes None None (Some r) e f = refl
 room_comes (Some r) streams by_room e f = absurd (let n : Some r ≡ None = e in cc)
 room_comes None (Some r) by_room e f = absurd (let n : Some r ≡ None = f in cc)
 
--- no stream is open
-pub none_streamed : (w : World) (f : Option Fid) → w.streams ≡ [] → when (is_streamed w f) refusal.StreamsOpen ≡ None
-none_streamed w None e = refl
-none_streamed w (Some f) e = rw e refl
+-- whether a stream has the file that is meant
+pub is_open : (w : World) (r : Option Fid) (f : Fid) (b : Bool) → r ≡ Some f → is_streamed w (Some f) ≡ b → when (is_streamed w r) refusal.StreamsOpen ≡ when b refusal.StreamsOpen
+is_open w r f b is e = ap (λ x. when (is_streamed w x) refusal.StreamsOpen) is ∙ ap (λ x. when x refusal.StreamsOpen) e
 
 -- lengths
 pub is_beyond : (size last : ℕ) → size < last → when_beyond size last ≡ Some (refusal.Beyond size)

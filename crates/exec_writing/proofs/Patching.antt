@@ -1,5 +1,5 @@
 -- Bytes in the place of those of a file: their line by the model.
-use Rattle.std.proofs.Common.{Bool, List, Ok, Option, Result, Some, [], ap, arith, drop, false, length, length-drop, min, refl, subst, suc, sym, take, true, zero, ℕ, ◌%◌, ◌+◌, ◌-◌, ◌<◌, ◌==◌, ◌∙◌, ◌∷◌, ◌≡◌, ◌≤◌}
+use Rattle.std.proofs.Common.{Bool, List, None, Ok, Option, Result, Some, [], ap, arith, drop, false, length, length-drop, min, refl, subst, suc, sym, take, true, zero, ℕ, ◌%◌, ◌+◌, ◌-◌, ◌<◌, ◌==◌, ◌∙◌, ◌∷◌, ◌≡◌, ◌≤◌}
 use Rattle.std.proofs.lemmas.Bool.Decides.{nat_tests}
 use Rattle.std.proofs.lemmas.List.{length-take}
 use Rattle.alto_words.specs.declared.fid.Fid.{Fid}
@@ -30,7 +30,7 @@ use Rattle.session_model.specs.Streams.{puts, puts_from}
 use Rattle.session_model.specs.Worlds.{World}
 use Rattle.exec_session.specs.Meant.{IsTakenUpBy}
 use Rattle.exec_session.specs.declared.stop.Stop.{Stop}
-use Rattle.exec_session.specs.Midway.{Arrived, MayStart, Started, StepsOn}
+use Rattle.exec_steps.specs.Midway.{Arrived, MayStart, Started, StepsOn}
 use Rattle.exec_writing.specs.Measured.{IsMeasured}
 use Rattle.exec_writing.specs.Patching.{MayPatchFile}
 use Rattle.exec_writing.specs.Writing.{WritesAll}
@@ -39,7 +39,7 @@ use Rattle.exec_writing.proofs.Lengths.{is_file, measured_length, model_length}
 use Rattle.exec_writing.proofs.Opening.{file_stands_still, opens_and_steps}
 use Rattle.exec_writing.proofs.Putting.{puts_first}
 use Rattle.exec_session.specs.laws_session.specs.RefusedLaws.{first_of}
-use Rattle.exec_writing.proofs.OrdinaryReasons.{beyond_comes, has_room, is_beyond, is_within, none_streamed, operand_refused, operand_taken, room_comes, tests_of}
+use Rattle.exec_writing.proofs.OrdinaryReasons.{beyond_comes, has_room, is_beyond, is_open, is_within, operand_refused, operand_taken, room_comes, streams_come, tests_of}
 use Rattle.exec_writing.proofs.Touching.{named, touches_file}
 use Rattle.exec_writing.proofs.Turns.{AreOfALine, IsWriting, Plans, Unrefused}
 
@@ -80,7 +80,7 @@ patches_of_a_line m f at bytes some within = record {
 pub patch_writes : (target : Target) (offset : ℕ) (bytes : List ℕ) → IsWriting (line.Patch target offset bytes)
 patch_writes target offset bytes = record { world = λ m w. refl; quit = refl; scavenge = refl; needs = refl }
 
-module _ (p : Pack) (w : World) (target : Target) (offset : ℕ) (bytes : List ℕ) (sound : Sound p) (none : w.streams ≡ []) (taken : IsTakenUpBy w (line.Patch target offset bytes)) where
+module _ (p : Pack) (w : World) (target : Target) (offset : ℕ) (bytes : List ℕ) (sound : Sound p) (taken : IsTakenUpBy w (line.Patch target offset bytes)) where
   abbrev m : Model
   m = read_as p
 
@@ -109,21 +109,27 @@ module _ (p : Pack) (w : World) (target : Target) (offset : ℕ) (bytes : List �
         ∙ beyond_comes (refusal.Beyond x.length) beyond streams (by_room m (effect l m w).ops)
         (ap (λ r. when_found r (λ f. when_beyond (length_of m f) (offset + length bytes))) is.at.is ∙ ap (λ b. when_beyond b (offset + length bytes)) long ∙ is_beyond x.length (offset + length bytes) less)
 
-    pub patch_answers : offset + length bytes ≤ x.length → Unrefused m l w (puts x.file.fid offset bytes) done_text
-    patch_answers most = record {
+    within : offset + length bytes ≤ x.length → beyond ≡ None
+    within most = ap (λ r. when_found r (λ f. when_beyond (length_of m f) (offset + length bytes))) is.at.is ∙ ap (λ b. when_beyond b (offset + length bytes)) long ∙ is_within x.length (offset + length bytes) most
+
+    pub patch_streamed : offset + length bytes ≤ x.length → is_streamed w (Some x.file.fid) ≡ true → refusal_to l m w ≡ Some refusal.StreamsOpen
+    patch_streamed most has =
+        operand_taken l m w target beyond streams taken refl is.taken
+        ∙ streams_come beyond streams (by_room m (effect l m w).ops) refusal.StreamsOpen (within most) (is_open w (file_at m target) x.file.fid true is.at.is has)
+
+    pub patch_answers : offset + length bytes ≤ x.length → is_streamed w (Some x.file.fid) ≡ false → Unrefused m l w (puts x.file.fid offset bytes) done_text
+    patch_answers most none = record {
       unrefused =
           operand_taken l m w target beyond streams taken refl is.taken
-          ∙ room_comes beyond streams (by_room m (effect l m w).ops)
-          (ap (λ r. when_found r (λ f. when_beyond (length_of m f) (offset + length bytes))) is.at.is ∙ ap (λ b. when_beyond b (offset + length bytes)) long ∙ is_within x.length (offset + length bytes) most)
-          (none_streamed w (file_at m target) none)
+          ∙ room_comes beyond streams (by_room m (effect l m w).ops) (within most) (is_open w (file_at m target) x.file.fid false is.at.is none)
           ∙ has_room m (effect l m w).ops (let pages = ap (pages_for_operations m) ops_are ∙ no_pages (length bytes) m x.file.fid offset bytes in omega (arith, pages));
       ops_are = ops_are;
       text_is = refl;
     }
 
-    pub patch_plans : 0 < length bytes → offset + length bytes ≤ x.length → Plans m l w (puts x.file.fid offset bytes) done_text (x.file.fid ∷ [])
-    patch_plans some most = record {
-      answers = patch_answers most;
+    pub patch_plans : 0 < length bytes → offset + length bytes ≤ x.length → is_streamed w (Some x.file.fid) ≡ false → Plans m l w (puts x.file.fid offset bytes) done_text (x.file.fid ∷ [])
+    patch_plans some most none = record {
+      answers = patch_answers most none;
       line = patches_of_a_line m x.file.fid offset bytes some (omega (arith, long, most));
       among = λ g there. touches_file m target x.file.fid g is.at.is there;
     }

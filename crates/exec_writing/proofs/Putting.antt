@@ -28,10 +28,10 @@ use Rattle.exec_session.specs.Meant.{IfHint}
 use Rattle.exec_session.specs.Stops.{stop_written}
 use Rattle.exec_session.specs.declared.stop.Stop.{Stop}
 use Rattle.exec_session.proofs.Finding.{contains_first}
-use Rattle.exec_session.specs.Midway.{Arrived, StepsOn}
-use Rattle.exec_session.proofs.Joining.{step_for, step_of_nothing, steps_err, steps_ok}
-use Rattle.exec_session.proofs.Stepping.{steps_append}
-use Rattle.exec_session.proofs.laws.Laws.{step_stops, steps_join}
+use Rattle.exec_steps.specs.Midway.{Arrived, StepsOn}
+use Rattle.exec_steps.proofs.Joining.{step_for, step_of_nothing, steps_err, steps_ok}
+use Rattle.exec_steps.proofs.Stepping.{steps_append}
+use Rattle.exec_steps.proofs.laws.Laws.{step_stops, steps_join}
 use Rattle.exec_writing.specs.Patching.{MayPatchFile}
 use Rattle.exec_writing.proofs.Lengths.{model_length}
 use Rattle.exec_writing.proofs.Opening.{file_stands_still}

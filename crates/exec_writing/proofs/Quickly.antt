@@ -12,11 +12,11 @@ use Rattle.pack_model.specs.hints.Links.{LinksTrue}
 use Rattle.pack_model.specs.operations.Step.{Operation}
 use Rattle.session_model.specs.Keeping.{Kept}
 use Rattle.session_model.specs.Streams.{grows}
-use Rattle.exec_session.specs.Meant.{IsSameButMark, IsSoon, kept}
+use Rattle.exec_steps.specs.Asked.{IsSameButMark, MayGrowFile, Works, to_stamp}
+use Rattle.exec_session.specs.Meant.{IsSoon, kept}
 use Rattle.exec_session.specs.declared.session.Session.{Session}
 use Rattle.exec_session.specs.declared.stop.Stop.{Stop}
-use Rattle.exec_session.specs.Asked.{MayGrowFile, Works, to_stamp}
-use Rattle.exec_session.specs.Midway.{Arrived, MayStart, Midway, Started, StepsOn}
+use Rattle.exec_steps.specs.Midway.{Arrived, MayStart, Midway, Started, StepsOn}
 use Rattle.exec_writing.proofs.Appending.{may_grow_still}
 use Rattle.exec_writing.proofs.Handing.{handy_stays, last_stays, near_of_last, opened_others}
 

@@ -43,21 +43,17 @@ pub copy_refused : (m : Model) (w : World) (target : Target) (path : Path) → I
 copy_refused m w target path taken none =
     refused_later (copy_line target path) m w taken none ∙ last_two (when (nat_le most_serials m.last) (refusal.SerialsSpent m.last)) (by_room m (effect (copy_line target path) m w).ops)
 
-no_stream : (w : World) (r : Option Fid) → w.streams ≡ [] → is_streamed w r ≡ false
-no_stream w None e = refl
-no_stream w (Some f) e = rw e refl
-
-pub rename_refused : (m : Model) (w : World) (old new : Path) → IsTakenUpBy w (line.Rename old new) → w.streams ≡ [] → first_of (by_operands (line.Rename old new) m) ≡ None
-    → refusal_to (line.Rename old new) m w ≡ by_room m (effect (line.Rename old new) m w).ops
+pub rename_refused : (m : Model) (w : World) (old new : Path) → IsTakenUpBy w (line.Rename old new) → first_of (by_operands (line.Rename old new) m) ≡ None
+    → refusal_to (line.Rename old new) m w ≡ option_or (when (is_streamed w (file_at m (ByPath old))) refusal.StreamsOpen) (by_room m (effect (line.Rename old new) m w).ops)
 unfolding first
-rename_refused m w old new taken none_open none =
+rename_refused m w old new taken none =
     refused_later (line.Rename old new) m w taken none
-    ∙ by (is_streamed w (file_at m (ByPath old))) (by_room m (effect (line.Rename old new) m w).ops) (no_stream w (file_at m (ByPath old)) none_open)
+    ∙ by (is_streamed w (file_at m (ByPath old))) (by_room m (effect (line.Rename old new) m w).ops)
   where
-    by : (b : Bool) (a : Option Refusal) → b ≡ false → first_of (None ∷ None ∷ None ∷ when b refusal.StreamsOpen ∷ None ∷ None ∷ None ∷ a ∷ []) ≡ a
-    by false None e = refl
-    by false (Some r) e = refl
-    by true a e = absurd (let n : true ≡ false = e in cc)
+    by : (b : Bool) (a : Option Refusal) → first_of (None ∷ None ∷ None ∷ when b refusal.StreamsOpen ∷ None ∷ None ∷ None ∷ a ∷ []) ≡ option_or (when b refusal.StreamsOpen) a
+    by false None = refl
+    by false (Some r) = refl
+    by true a = refl
 
 -- ---- operands: a file, and a new name
 abbrev tests : Model → Option Fid → Option Fid → Option Fid → Option Fid → Option Refusal → Bool → Option Refusal

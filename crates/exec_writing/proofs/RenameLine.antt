@@ -1,10 +1,10 @@
 -- `rename` as a line: its operations, its refusal for room, and how it ends from where its sectors are reserved.
 use Rattle.std.proofs.Common.{◌≡◌, ◌≤◌, ◌<◌, ◌+◌, ◌++◌, ℕ, All, Bool, true, false, cond, min, nat_lt, List, [], ◌∷◌, Some, None, Result, Ok, Err, Contains, get_or, length, length-append, refl, sym, subst, ap, ◌∙◌, arith, suc, zero}
 use Rattle.std.proofs.lemmas.Bool.{le-ltb, lt-ltb}
-use Rattle.std.specs.Option.{option_map, unwrap_or}
+use Rattle.std.specs.Option.{option_map, option_or, unwrap_or}
 use Rattle.alto_words.specs.Fid.{sys_dir}
 use Rattle.alto_words.specs.declared.fid.Fid.{Fid}
-use Rattle.disk_records.proofs.Growing.{pack-silent}
+use Rattle.disk_records.proofs.Growing.{alone_here, nothing_added, pack-silent}
 use Rattle.disk_records.specs.Packs.{Pack, is_free_at}
 use Rattle.disk_records.specs.Tapes.{DiskAlone, Taped, added, pack}
 use Rattle.exec_words.specs.declared.line.Line.{Line}
@@ -36,32 +36,35 @@ use Rattle.pack_model.specs.sessions.Descriptor.{DescriptorFits}
 use Rattle.pack_model.specs.states.InUse.{free_sector_count}
 use Rattle.pack_model.specs.states.Sound.{Sound}
 use Rattle.session_model.specs.Answering.{plain_reply}
-use Rattle.session_model.specs.Effects.{rename_ops, widenings}
+use Rattle.session_model.specs.Effects.{effect, rename_ops, widenings}
 use Rattle.session_model.specs.Finding.{dir_of, fid_of, name_given, own_name, the_dir, the_file}
-use Rattle.session_model.specs.Keeping.{Kept}
-use Rattle.session_model.specs.Refusals.{when}
+use Rattle.session_model.specs.Keeping.{Kept, world_of}
+use Rattle.session_model.specs.Refusals.{by_room, is_streamed, when}
 use Rattle.session_model.specs.Replies.{ops, refusal as refusal_to, unless_refused}
 use Rattle.session_model.specs.Touched.{files_named, one_of}
 use Rattle.session_model.specs.Turning.{HintFailing, State, cue_files, typed}
 use Rattle.session_model.specs.Worlds.{World}
 use Rattle.exec_session.proofs.Finding.{contains_first, contains_second}
 use Rattle.exec_session.specs.Found.{root_ref}
-use Rattle.exec_session.specs.Meant.{IfHint, IfRefused, IsSameButTable, IsTakenUpBy, kept, kept_stopped, stopped}
-use Rattle.exec_session.specs.Rooms.{pages_planned, widens_if}
+use Rattle.exec_session.specs.Meant.{IfHint, IfRefused, IsTakenUpBy, kept, kept_stopped, stopped}
+use Rattle.exec_steps.specs.Asked.{IsSameButTable, Works, first_widenings}
+use Rattle.exec_steps.specs.Rooms.{pages_planned, widens_if}
+use Rattle.exec_session.specs.Stops.{refused_if}
 use Rattle.exec_session.specs.Turned.{Begins, Turned, line_ops}
-use Rattle.exec_session.specs.declared.rooms.NewEntry.{NewEntry}
+use Rattle.exec_steps.specs.declared.rooms.NewEntry.{NewEntry}
 use Rattle.exec_session.specs.declared.session.Session.{Session}
 use Rattle.exec_session.specs.declared.stop.Stop.{Stop}
-use Rattle.exec_session.proofs.Calling.{dir_stands_still}
-use Rattle.exec_session.proofs.Stepping.{if_hint_weaker}
-use Rattle.exec_session.specs.Asked.{Works, first_widenings}
-use Rattle.exec_session.specs.Midway.{AreFree, Arrived, Midway, Started, StepsOn}
+use Rattle.exec_steps.proofs.Calling.{dir_stands_still}
+use Rattle.exec_session.proofs.OrdinaryFiles.{by_test}
+use Rattle.exec_session.proofs.Turning.{line_is_refused}
+use Rattle.exec_steps.proofs.Stepping.{if_hint_weaker}
+use Rattle.exec_steps.specs.Midway.{AreFree, Arrived, Midway, Started, StepsOn}
 use Rattle.exec_writing.specs.Plans.{IsRenaming, MayRename, changed_entry, renamed}
 use Rattle.exec_writing.specs.Writes.{WritesLine}
 use Rattle.exec_writing.specs.declared.rename.Renaming.{Renaming}
 use Rattle.exec_writing.proofs.Adding.{are_free, begins_there, first_placed, root_stands, same_but_reserved, unrefused_ops}
-use Rattle.exec_writing.proofs.Ends.{files_are, stops_unwritten}
-use Rattle.exec_session.proofs.Frames.{world_worked}
+use Rattle.exec_writing.proofs.Ends.{begins_model, files_are, stops_unwritten}
+use Rattle.exec_steps.proofs.Frames.{works_here, world_worked}
 use Rattle.exec_writing.proofs.Leaving.{path_entered}
 use Rattle.exec_writing.proofs.NamedEntries.{dir_is, dir_stands, given_is, states, widens_as_planned}
 use Rattle.exec_writing.proofs.NewSectors.{few_planned, refused_then}
@@ -129,7 +132,7 @@ module _ (p : Pack) (old new : Path) (plan : Renaming) (is : IsRenaming p old ne
       ∙ ap (λ x. x ++ title f e.name ∷ changed_entry plan) (sym planned_are)
 
   pub pages_are : pages_for_operations m (renamed plan) ≡ pages_planned e
-  pages_are = by e.spare e.room
+  pages_are = by e.widens_root e.widens_dir
     where
       by : (a b : Bool) → pages_for_operations m ((widens_if a sys_dir ++ widens_if b e.dir.fid) ++ title f e.name ∷ changed_entry plan) ≡ cond a 1 0 + cond b 1 0
       by true true = refl
@@ -138,20 +141,27 @@ module _ (p : Pack) (old new : Path) (plan : Renaming) (is : IsRenaming p old ne
       by false false = refl
 
   -- ---- refusals
-  module _ (w : World) (taken : IsTakenUpBy w (line.Rename old new)) (none_open : w.streams ≡ []) where
-    refused_is : refusal_to (line.Rename old new) m w ≡ when (nat_lt (room m) (pages_planned e)) (refusal.Full (pages_planned e) (room m))
-    refused_is =
-        rename_refused m w old new taken none_open is.entry.passes
-        ∙ ap (λ n. when (nat_lt (room m) n) (refusal.Full n (room m))) (ap (pages_for_operations m) ops_are ∙ pages_are)
+  module _ (w : World) (taken : IsTakenUpBy w (line.Rename old new)) where
+    tests : refusal_to (line.Rename old new) m w ≡ option_or (when (is_streamed w (Some f)) refusal.StreamsOpen) (when (nat_lt (room m) (pages_planned e)) (refusal.Full (pages_planned e) (room m)))
+    tests =
+        rename_refused m w old new taken is.entry.passes
+        ∙ ap (λ r. option_or (when (is_streamed w r) refusal.StreamsOpen) (by_room m (effect (line.Rename old new) m w).ops)) (ap fid_of is.found.entry)
+        ∙ ap (λ n. option_or (when (is_streamed w (Some f)) refusal.StreamsOpen) (when (nat_lt (room m) n) (refusal.Full n (room m)))) (ap (pages_for_operations m) ops_are ∙ pages_are)
+
+    pub streams_meet : is_streamed w (Some f) ≡ true → refusal_to (line.Rename old new) m w ≡ Some refusal.StreamsOpen
+    streams_meet has = tests ∙ ap (λ b. option_or (when b refusal.StreamsOpen) (when (nat_lt (room m) (pages_planned e)) (refusal.Full (pages_planned e) (room m)))) has
+
+    refused_is : is_streamed w (Some f) ≡ false → refusal_to (line.Rename old new) m w ≡ when (nat_lt (room m) (pages_planned e)) (refusal.Full (pages_planned e) (room m))
+    refused_is none = tests ∙ ap (λ b. option_or (when b refusal.StreamsOpen) (when (nat_lt (room m) (pages_planned e)) (refusal.Full (pages_planned e) (room m)))) none
 
     least : min (pages_planned e) 65535 ≡ pages_planned e
     least = let few = few_planned e in omega (arith, few)
 
-    pub room_lacking : (r : Refusal) → (r ≡ refusal.Full (min (pages_planned e) 65535) (room m)) × (room m < pages_planned e) → refusal_to (line.Rename old new) m w ≡ Some r
-    room_lacking r h = refused_is ∙ ap (λ b. when b (refusal.Full (pages_planned e) (room m))) (lt-ltb (room m) (pages_planned e) h.1) ∙ ap Some (sym (h.0 ∙ ap (λ n. refusal.Full n (room m)) least))
+    pub room_lacking : is_streamed w (Some f) ≡ false → (r : Refusal) → (r ≡ refusal.Full (min (pages_planned e) 65535) (room m)) × (room m < pages_planned e) → refusal_to (line.Rename old new) m w ≡ Some r
+    room_lacking none r h = refused_is none ∙ ap (λ b. when b (refusal.Full (pages_planned e) (room m))) (lt-ltb (room m) (pages_planned e) h.1) ∙ ap Some (sym (h.0 ∙ ap (λ n. refusal.Full n (room m)) least))
 
-    pub room_enough : pages_planned e ≤ room m → refusal_to (line.Rename old new) m w ≡ None
-    room_enough h = refused_is ∙ ap (λ b. when b (refusal.Full (pages_planned e) (room m))) (le-ltb (room m) (pages_planned e) h)
+    pub room_enough : is_streamed w (Some f) ≡ false → pages_planned e ≤ room m → refusal_to (line.Rename old new) m w ≡ None
+    room_enough none h = refused_is none ∙ ap (λ b. when b (refusal.Full (pages_planned e) (room m))) (le-ltb (room m) (pages_planned e) h)
 
   -- ---- what its steps ask, once the mark is open
   module _ (w : World) (sound : Sound p) (none : refusal_to (line.Rename old new) m w ≡ None) where
@@ -201,7 +211,17 @@ module _ (p : Pack) (old new : Path) (plan : Renaming) (is : IsRenaming p old ne
   touched g (suc (suc (suc (suc k))), less, it) = absurd (omega (arith, less))
 
 -- ---- from the plan to what stopped the line, or to its end
-module _ (a b : Taped) (s0 s1 : Session) (s : State) (old new : Path) (plan : Renaming) (begins : Begins a (kept s0) s (line.Rename old new)) (is : IsRenaming (pack a) old new plan) (alone : DiskAlone a b) (silent : added a b ≡ []) (same : IsSameButTable s0 s1) where
+-- a stream has the file
+pub streams_stop : (a : Taped) (s0 : Session) (s : State) (old new : Path) (plan : Renaming) (x : Stop) → Begins a (kept s0) s (line.Rename old new) → IsRenaming (pack a) old new plan
+    → ◌≡◌ {A = Result (Unit {0}) Stop} (Err x) (refused_if (is_streamed (world_of (kept s0)) (Some plan.found.file.fid)) refusal.StreamsOpen) → Turned a a (kept s0) (kept_stopped x (kept s0)) s (line.Rename old new) (stopped x)
+streams_stop a s0 s old new plan x begins is test =
+    let t = by_test (is_streamed (world_of (kept s0)) (Some plan.found.file.fid)) x refusal.StreamsOpen test in
+    let refused = streams_meet (pack a) old new plan is s.world begins.taken_up (ap (λ w. is_streamed w (Some plan.found.file.fid)) begins.keeping.world ∙ t.0) in
+    subst (λ y. Turned a a (kept s0) (kept_stopped y (kept s0)) s (line.Rename old new) (stopped y)) (sym t.1)
+    (line_is_refused a a (kept s0) (kept s0) s (line.Rename old new) refusal.StreamsOpen begins.keeping (ap (λ m. refusal_to (line.Rename old new) m s.world) (sym (begins_model begins)) ∙ refused) (alone_here a) (nothing_added a.events)
+    (record { world = world_worked (works_here s0); shape = refl; last = refl; mark = refl; pages = refl; tally = refl; table = λ was. was }))
+
+module _ (a b : Taped) (s0 s1 : Session) (s : State) (old new : Path) (plan : Renaming) (begins : Begins a (kept s0) s (line.Rename old new)) (is : IsRenaming (pack a) old new plan) (free : is_streamed (world_of (kept s0)) (Some plan.found.file.fid) ≡ false) (alone : DiskAlone a b) (silent : added a b ≡ []) (same : IsSameButTable s0 s1) where
   abbrev l : Line
   l = line.Rename old new
 
@@ -220,8 +240,8 @@ module _ (a b : Taped) (s0 s1 : Session) (s : State) (old new : Path) (plan : Re
   sound : Sound p
   sound = begins.keeping.stands.sound unneeded
 
-  no_streams : s.world.streams ≡ []
-  no_streams = ap (λ w. w.streams) begins.keeping.world
+  none_has : is_streamed s.world (Some plan.found.file.fid) ≡ false
+  none_has = ap (λ w. is_streamed w (Some plan.found.file.fid)) begins.keeping.world ∙ free
 
   files_are_named : cue_files s (typed l) ≡ files_named l (read_as p)
   files_are_named = files_are l s begins.taken_up ∙ ap (files_named l) (sym read)
@@ -232,17 +252,17 @@ module _ (a b : Taped) (s0 s1 : Session) (s : State) (old new : Path) (plan : Re
   reserving_stops T n x many table refused never =
       stops_unwritten T a b (kept s0) (kept s1) s l x begins.keeping begins.stays begins.taken_up alone silent (same_but_reserved a b s0 s1 here same table)
       (refused_then {T = T} (λ r. (r ≡ refusal.Full (min n 65535) (room (read_as p))) × (room (read_as p) < n)) (λ r. refusal_to l s.model s.world ≡ Some r) (Err x)
-      (λ r h. ap (λ m. refusal_to l m s.world) (sym read) ∙ room_lacking p old new plan is s.world begins.taken_up no_streams r (full_as_planned p plan.entry n many r h)) refused)
+      (λ r h. ap (λ m. refusal_to l m s.world) (sym read) ∙ room_lacking p old new plan is s.world begins.taken_up none_has r (full_as_planned p plan.entry n many r h)) refused)
       (if_hint_weaker {T = T} (λ place at wanted found. ⊥) (HintFailing p [] (cue_files s (typed l))) (Err x) (λ place at wanted found none. absurd none) never)
 
   -- the sectors are reserved
-  module _ (writes : b.writes ≡ a.writes) (fresh : List ℕ) (end : ℕ) (reserved : IsReserved end (pages_planned plan.entry) s1.hints.table fresh) (free : All (λ i. is_free_at p i ≡ true) fresh) (enough : pages_planned plan.entry ≤ room (read_as p))
+  module _ (writes : b.writes ≡ a.writes) (fresh : List ℕ) (end : ℕ) (reserved : IsReserved end (pages_planned plan.entry) s1.hints.table fresh) (free_ones : All (λ i. is_free_at p i ≡ true) fresh) (enough : pages_planned plan.entry ≤ room (read_as p))
       (table : TableTrue p s0.hints.table → TableReserves p s1.hints.table fresh) where
     abbrev at : ℕ
     at = get_or s0.descriptor.pages 0 0
 
     none : refusal_to l (read_as p) s.world ≡ None
-    none = room_enough p old new plan is s.world begins.taken_up no_streams enough
+    none = room_enough p old new plan is s.world begins.taken_up none_has enough
 
     none_now : refusal_to l s.model s.world ≡ None
     none_now = ap (λ n. refusal_to l n s.world) (sym read) ∙ none
@@ -279,7 +299,7 @@ module _ (a b : Taped) (s0 s1 : Session) (s : State) (old new : Path) (plan : Re
         placed = fits.placed;
         fits = now_fits;
         tally = ap (λ x. x.tally) same;
-        free = subst (λ q. AreFree q fresh) (sym here) (are_free p end (pages_planned plan.entry) s1.hints.table fresh reserved free);
+        free = subst (λ q. AreFree q fresh) (sym here) (are_free p end (pages_planned plan.entry) s1.hints.table fresh reserved free_ones);
         table = λ t. subst (λ q. TableReserves q s1.hints.table fresh) (sym here) (table (subst (λ q. TableTrue q s0.hints.table) here t));
       };
     }
@@ -308,7 +328,7 @@ module _ (a b : Taped) (s0 s1 : Session) (s : State) (old new : Path) (plan : Re
           (subst (λ o. StepsOn c d (kept s2) (kept s3) o fresh (files p old new plan is) (Ok y)) (sym own_are) steps) in
           record {
             unrefused = none_now;
-            plain = looked_before a b d (kept s0) (kept s3) s l (plain_reply s (typed l)) alone next silent writes done.plain;
+            plain = λ form formed. looked_before a b d (kept s0) (kept s3) s l (plain_reply s (typed l)) alone next silent writes (done.plain form formed);
             memory = looked_before a b d (kept s0) (kept s3) s l reply.Memory alone next silent writes done.memory;
           }
       renaming_ends d s3 (Err x) worked next unrefused steps =

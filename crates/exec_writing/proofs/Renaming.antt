@@ -34,29 +34,29 @@ use Rattle.pack_model.specs.reading.Slots.{entry_length}
 use Rattle.pack_model.specs.reading.Versions.{Entered, exact}
 use Rattle.session_model.specs.Finding.{fid_of}
 use Rattle.session_model.specs.Keeping.{Kept}
-use Rattle.exec_session.specs.Rooms.{pages_planned, widens_if}
-use Rattle.exec_session.specs.declared.rooms.NewEntry.{NewEntry}
+use Rattle.exec_steps.specs.Rooms.{pages_planned, widens_if}
+use Rattle.exec_steps.specs.declared.rooms.NewEntry.{NewEntry}
 use Rattle.exec_session.specs.declared.stop.Stop.{Stop}
-use Rattle.exec_session.proofs.Calling.{dir_stands_still, widens_stay}
-use Rattle.exec_session.proofs.Joining.{step_for, step_stops, steps_join}
-use Rattle.exec_session.proofs.Stepping.{steps_append}
-use Rattle.exec_session.specs.Asked.{MayEnterFile, first_widenings}
-use Rattle.exec_session.specs.Midway.{Arrived, StepsOn}
+use Rattle.exec_steps.proofs.Calling.{dir_stands_still, widens_stay}
+use Rattle.exec_steps.proofs.Joining.{step_for, step_stops, steps_join}
+use Rattle.exec_steps.proofs.Stepping.{steps_append}
+use Rattle.exec_steps.specs.Asked.{MayEnterFile, first_widenings}
+use Rattle.exec_steps.specs.Midway.{Arrived, StepsOn}
 use Rattle.exec_writing.specs.Plans.{MayChange, MayRename, changed_entry, renamed}
 use Rattle.exec_writing.specs.declared.rename.Renaming.{Renaming}
 use Rattle.exec_writing.proofs.Leaving.{kinds_apart}
 
 -- ---- over pages of directories
 stay_found : (m : Model) (e : NewEntry) (g : Fid) (from : Place) → StaysFoundOver m (first_widenings e) g from
-stay_found m e g from = over e.spare
+stay_found m e g from = over e.widens_root
   where
-    over : (b : Bool) → StaysFoundOver m (widens_if b sys_dir ++ widens_if e.room e.dir.fid) g from
-    over true = (tt, widens_stay e.room e.dir.fid _ g from)
-    over false = widens_stay e.room e.dir.fid m g from
+    over : (b : Bool) → StaysFoundOver m (widens_if b sys_dir ++ widens_if e.widens_dir e.dir.fid) g from
+    over true = (tt, widens_stay e.widens_dir e.dir.fid _ g from)
+    over false = widens_stay e.widens_dir e.dir.fid m g from
 
 -- what is so of the model after a page more, if it was before, is so after the planned ones
 over_pages : (P : Model → Type 0) → ((m : Model) (d : Fid) → P m → P (step m (widen d))) → (m : Model) (e : NewEntry) → P m → P (steps_of m (first_widenings e))
-over_pages P keeps m e h = subst P (sym (steps_append m (widens_if e.spare sys_dir) (widens_if e.room e.dir.fid))) (one e.room e.dir.fid (steps_of m (widens_if e.spare sys_dir)) (one e.spare sys_dir m h))
+over_pages P keeps m e h = subst P (sym (steps_append m (widens_if e.widens_root sys_dir) (widens_if e.widens_dir e.dir.fid))) (one e.widens_dir e.dir.fid (steps_of m (widens_if e.widens_root sys_dir)) (one e.widens_root sys_dir m h))
   where
     one : (b : Bool) (d : Fid) (n : Model) → P n → P (steps_of n (widens_if b d))
     one true d n k = keeps n d k

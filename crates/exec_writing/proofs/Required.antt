@@ -3,10 +3,10 @@ use Rattle.std.proofs.Common.{◌≡◌, ◌≤◌, ◌+◌, ℕ, List, Bool, le
 use Rattle.disk_records.specs.Addresses.{pages_of}
 use Rattle.disk_records.specs.Tapes.{DiskAlone, Taped}
 use Rattle.page_alloc.specs.Free.{IsReserved}
-use Rattle.exec_session.specs.Rooms.{pages_planned}
-use Rattle.exec_session.specs.declared.rooms.NewEntry.{NewEntry}
+use Rattle.exec_steps.specs.Rooms.{pages_planned}
+use Rattle.exec_steps.specs.declared.rooms.NewEntry.{NewEntry}
 use Rattle.exec_session.specs.declared.session.Session.{Session}
-use Rattle.exec_session.specs.Asked.{Works}
+use Rattle.exec_steps.specs.Asked.{Works}
 use Rattle.exec_writing.proofs.NewSectors.{few_planned}
 
 -- ---- the disk has the shape and the table that are kept

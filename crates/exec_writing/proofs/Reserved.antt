@@ -10,10 +10,11 @@ use Rattle.exec_session.specs.laws_hint.specs.TableLaws.{TableReserves}
 use Rattle.exec_session.specs.page_alloc.specs.Free.{IsReserved}
 use Rattle.pack_model.specs.hints.Tables.{TableTrue}
 use Rattle.pack_model.specs.states.Sound.{Sound}
-use Rattle.exec_session.specs.Meant.{IsSameButTable, LooksAbout, kept}
+use Rattle.exec_steps.specs.Asked.{IsSameButTable}
+use Rattle.exec_session.specs.Meant.{LooksAbout, kept}
 use Rattle.exec_session.specs.Turned.{SameBut}
 use Rattle.exec_session.specs.declared.session.Session.{Session}
-use Rattle.exec_session.specs.Midway.{AreFree}
+use Rattle.exec_steps.specs.Midway.{AreFree}
 use Rattle.exec_session.proofs.LookedBefore.{same_count}
 use Rattle.exec_writing.proofs.Looked.{hints_alone}
 use Rattle.exec_writing.proofs.Turns.{ReadyToWrite}
@@ -58,7 +59,7 @@ module _ {told : Bool} {most few : ℕ} (old mid new : Taped) (one s t : Session
   -- where none were reserved
   pub same_but_reserved : Sound (pack old) → (Sound (pack mid) → TableTrue (pack mid) s.hints.table → TableTrue (pack mid) t.hints.table) → SameBut old new (kept one) (kept t)
   same_but_reserved sound table = subst (λ (x : Session). SameBut old new (kept one) (kept x)) (sym both_same) (record {
-    world = record { moment = refl; level = refl; memory = refl; before = refl; streams = refl; need = refl };
+    world = record { moment = refl; level = refl; memory = refl; streams = refl; need = refl };
     shape = refl;
     last = refl;
     mark = refl;

@@ -11,10 +11,10 @@ use Rattle.pack_model.specs.reading.Model.{Model}
 use Rattle.session_model.specs.Keeping.{Kept}
 use Rattle.exec_session.specs.declared.stop.Stop.{Stop}
 use Rattle.exec_session.proofs.Stopping.{error_is}
-use Rattle.exec_session.specs.Asked.{IsFile, to_stamp}
-use Rattle.exec_session.specs.Midway.{StepsOn}
-use Rattle.exec_session.proofs.Joining.{step_for}
-use Rattle.exec_session.proofs.laws.Laws.{step_stops, steps_join}
+use Rattle.exec_steps.specs.Asked.{IsFile, to_stamp}
+use Rattle.exec_steps.specs.Midway.{StepsOn}
+use Rattle.exec_steps.proofs.Joining.{step_for}
+use Rattle.exec_steps.proofs.laws.Laws.{step_stops, steps_join}
 use Rattle.exec_writing.proofs.Opening.{file_stands_still}
 
 pub twice_one : (f g : Fid) → Contains ((f ∷ []) ++ (f ∷ [])) g → Contains (f ∷ []) g

@@ -40,12 +40,14 @@ use Rattle.exec_session.specs.Turned.{Begins, FewRuns, LeavesWorld, SameBut, Sam
 use Rattle.exec_session.proofs.Stopping.{error_is}
 use Rattle.exec_session.proofs.TakingUp.{goes_on, need_none, plain_text}
 use Rattle.exec_session.proofs.Turning.{line_is_refused, line_stops_unwritten, line_writes_nothing, turned_is_a_turn}
-use Rattle.exec_session.specs.Lines.{BrokeOff}
-use Rattle.exec_session.specs.Midway.{AreFree, MayStart, Midway}
-use Rattle.exec_session.proofs.laws.Laws.{line_is_done, line_stops, lines_break_off}
-use Rattle.exec_session.specs.Asked.{Works}
+use Rattle.exec_steps.specs.Lines.{BrokeOff}
+use Rattle.exec_steps.specs.Midway.{AreFree, MayStart, Midway}
+use Rattle.exec_steps.proofs.laws.Laws.{line_stops, lines_break_off}
+use Rattle.exec_steps.specs.Asked.{Works}
+use Rattle.exec_session.specs.laws_steps.specs.LineKeepingLaws.{KeepsFound}
+use Rattle.exec_writing.proofs.Streamed.{line_ends}
 use Rattle.exec_writing.specs.Writing.{WritesAll, Wrote}
-use Rattle.exec_session.proofs.Frames.{world_worked}
+use Rattle.exec_steps.proofs.Frames.{world_worked}
 use Rattle.exec_session.proofs.LookedBefore.{looked_before}
 
 -- ---- lines that write files
@@ -235,7 +237,7 @@ module _ (old : Taped) (one : Session) (l : Line) (writing : IsWriting l) (may :
     done wrote =
         looked_before old mid new (kept one) (kept two) s l (reply.Done text) ready.looked alone ready.silent ready.writes
         (subst (Turned mid new (kept one) (kept two) s l) (plain_of text ops planned)
-        (line_is_done mid new (kept one) (kept two) s l at begins leaves worked (subst (LineFits (pack mid) at) (sym ops_are) fits) (midway wrote)))
+        (line_ends mid new (kept one) (kept two) s l at begins leaves worked old.form may.formed (subst (LineFits (pack mid) at) (sym ops_are) fits) (subst (KeepsFound (pack mid) (pack new)) (sym ops_are) wrote.found) (midway wrote)))
 
 -- ---- as turns
 -- refused, or stopped before its first record write

@@ -17,10 +17,11 @@ use Rattle.exec_session.specs.Meant.{IfHint, IfRefused, kept_stopped, stopped}
 use Rattle.exec_session.specs.Turned.{Begins, LeavesWorld, SameWorld, Turned, line_ops}
 use Rattle.exec_session.specs.declared.stop.Stop.{Stop}
 use Rattle.exec_session.specs.declared.stop.Stop.TheVariants as stop
-use Rattle.exec_session.proofs.Joining.{steps_err}
-use Rattle.exec_session.proofs.Stepping.{if_hint_weaker}
-use Rattle.exec_session.proofs.laws.Laws.{line_is_done, line_stops, lines_break_off}
-use Rattle.exec_session.specs.Midway.{MayStart, Midway, Started, Stepped, StepsOn}
+use Rattle.exec_steps.proofs.Joining.{steps_err}
+use Rattle.exec_steps.proofs.Stepping.{if_hint_weaker}
+use Rattle.exec_steps.proofs.laws.Laws.{line_stops, lines_break_off}
+use Rattle.exec_steps.specs.Midway.{MayStart, Midway, Started, Stepped, StepsOn}
+use Rattle.exec_writing.proofs.Streamed.{found_later, line_ends}
 use Rattle.exec_writing.specs.Writes.{IsWritten}
 
 -- ---- a turn from before some looks
@@ -86,10 +87,11 @@ module _ (old : Taped) (one now : Kept) (s : State) (l : Line) (at : ℕ) (fresh
     -- they are done
     pub steps_done : (T : Type 0) (new : Taped) (two : Kept) (files : List Fid) (y : T) → SameWorld one two → DiskAlone old new → refusal_to l s.model s.world ≡ None → StepsOn mid new k two own fresh files (Ok y) → IsWritten old new one two s l
     steps_done T new two files y same alone none steps =
-        let done = (stepped new two files (Ok y) steps).midway in
+        let st = stepped new two files (Ok y) steps in
+        let done = st.midway in
         record {
           unrefused = none;
-          plain = line_is_done old new one two s l at m.begins m.leaves same m.fits done;
+          plain = λ form formed. line_ends old new one two s l at m.begins m.leaves same form formed m.fits (found_later old mid new own (Ok y) opened.reads started.found st.found) done;
           memory = line_stops old new one two s l stop.Memory m.begins same alone
               ((lines_break_off (Unit {0}) old one s l m.begins).later new two at own [] [] (Err stop.Memory) m.fits (append-nil own) done) tt tt;
         }

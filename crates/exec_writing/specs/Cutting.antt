@@ -5,7 +5,7 @@ use Rattle.disk_records.specs.Packs.{Pack}
 use Rattle.file_pages.specs.Cutting.{to_cut}
 use Rattle.page_seeking.specs.Seeking.{file_length}
 use Rattle.pack_model.specs.operations.Step.{Operation}
-use Rattle.exec_session.specs.Asked.{IsFile, to_stamp}
+use Rattle.exec_steps.specs.Asked.{IsFile, to_stamp}
 use Rattle.exec_writing.specs.declared.measuring.Measured.{Measured}
 
 -- a file of b bytes is cut to its first n, where it has more

@@ -22,9 +22,9 @@ use Rattle.session_model.specs.Touched.{files_touched}
 use Rattle.session_model.specs.Worlds.{World}
 use Rattle.exec_session.specs.Found.{IsDirOf, root_ref}
 use Rattle.exec_session.specs.NewNames.{IsGiven}
-use Rattle.exec_session.specs.Rooms.{IsPlanned, pages_planned}
-use Rattle.exec_session.specs.declared.rooms.NewEntry.{NewEntry}
-use Rattle.exec_session.specs.Asked.{first_widenings, made_entered, made_fid}
+use Rattle.exec_steps.specs.Rooms.{IsPlanned, pages_planned}
+use Rattle.exec_steps.specs.declared.rooms.NewEntry.{NewEntry}
+use Rattle.exec_steps.specs.Asked.{first_widenings, made_entered, made_fid}
 
 -- ---- what is planned
 -- The name that a new entry gets which is wanted so in this directory is the model's, and a stored one; and the directories that get a page

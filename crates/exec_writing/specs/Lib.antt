@@ -13,3 +13,4 @@ pub use Rattle.exec_session.specs.laws_contents
 pub use Rattle.exec_session.specs.laws_lookup
 pub use Rattle.exec_session.specs.laws_session
 pub use Rattle.exec_session.specs.disk_descriptor
+pub use Rattle.exec_steps

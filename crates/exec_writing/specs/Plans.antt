@@ -30,10 +30,10 @@ use Rattle.session_model.specs.Finding.{dir_of, is_path_taken}
 use Rattle.session_model.specs.Keeping.{Kept}
 use Rattle.session_model.specs.Refusals.{when, when_found, when_missing}
 use Rattle.exec_session.specs.Found.{IsAt, IsAtPath, IsDirOf}
-use Rattle.exec_session.specs.Rooms.{pages_planned}
+use Rattle.exec_steps.specs.Rooms.{pages_planned}
 use Rattle.exec_session.specs.declared.operands.Found.{Found}
-use Rattle.exec_session.specs.declared.rooms.NewEntry.{NewEntry}
-use Rattle.exec_session.specs.Asked.{MayMakeEntered, MayWidenFirst, first_widenings, made_entered}
+use Rattle.exec_steps.specs.declared.rooms.NewEntry.{NewEntry}
+use Rattle.exec_steps.specs.Asked.{MayMakeEntered, MayWidenFirst, first_widenings, made_entered}
 use Rattle.exec_writing.specs.Entries.{IsNewEntry, PlansPath}
 use Rattle.exec_writing.specs.declared.copy.Copying.{Copying}
 use Rattle.exec_writing.specs.declared.rename.Renaming.{Renaming}

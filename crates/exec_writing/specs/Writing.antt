@@ -10,13 +10,15 @@ use Rattle.session_model.specs.Turning.{HintFailing, State}
 use Rattle.exec_session.specs.Meant.{IfHint}
 use Rattle.exec_session.specs.Turned.{Begins, line_ops}
 use Rattle.exec_session.specs.declared.stop.Stop.{Stop}
-use Rattle.exec_session.specs.Lines.{BrokeOff}
-use Rattle.exec_session.specs.Midway.{MayStart, Midway}
+use Rattle.exec_steps.specs.Lines.{BrokeOff}
+use Rattle.exec_session.specs.laws_steps.specs.LineKeepingLaws.{KeepsFound}
+use Rattle.exec_steps.specs.Midway.{MayStart, Midway}
 
--- From a machine on which a line has only looked: at Ok its operations are all done, and no sector is reserved any more; an error breaks off
--- each line that has these operations; a hint that misled is of one of these files.
+-- From a machine on which a line has only looked: at Ok its operations are all done, no sector is reserved any more, and files that were found
+-- are found still; an error breaks off each line that has these operations; a hint that misled is of one of these files.
 pub record Wrote {T : Type 0} (old new : Taped) (one two : Kept) (at : ℕ) (ops : List Operation) (files : List Fid) (result : Result T Stop) : Type 0 where
   pub done : OnOk result (Midway old new one two at ops ops [])
+  pub found : OnOk result (KeepsFound (pack old) (pack new) ops)
   pub broke : OnErr result ((s : State) (l : Line) → Begins old one s l → line_ops s l ≡ ops → LineFits (pack old) at ops → BrokeOff old new one two s l result)
   pub failing : IfHint result (HintFailing (pack old) (added old new) files)
 

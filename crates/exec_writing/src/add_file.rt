@@ -1,13 +1,14 @@
 // A new file for an entry that is planned.
 ghost use Rattle.disk_records.specs.Addresses.{pages_of};
 ghost use Rattle.disk_records.specs.Causes.{HasCause};
+ghost use Rattle.disk_records.specs.Frames.{WritesUsable};
 ghost use Rattle.disk_records.specs.Tapes.{DiskAlone, added, pack};
 ghost use Rattle.exec_writing.specs.Entries.{AddsFile};
 ghost use Rattle.exec_writing.specs.Writes.{WritesLine};
 ghost use Rattle.exec_session.specs.Meant.{IfRefused, kept};
 ghost use Rattle.exec_session.specs.Stops.{cause_of_stop};
 ghost use Rattle.exec_session.specs.Turned.{Begins};
-ghost use Rattle.exec_session.specs.Asked.{Works, made_fid};
+ghost use Rattle.exec_steps.specs.Asked.{Works, made_fid};
 ghost use Rattle.exec_words.specs.declared.line.Line.{Line};
 ghost use Rattle.session_model.specs.Turning.{State};
 ghost use Rattle.std.specs.Prelude.{IfOk, IsTrue, [], length, ◌+◌, ◌≡◌};
@@ -15,7 +16,8 @@ ghost use Rattle.std.specs.Prelude.{IfOk, IsTrue, [], length, ◌+◌, ◌≡◌
 use crate::reserving::reserve_new;
 use alto_words::Fid;
 use disk_records::Disk;
-use exec_session::{NewEntry, Session, Stop, make_entered, open_mark};
+use exec_session::{Session, Stop};
+use exec_steps::{NewEntry, make_entered, open_mark};
 use std::alloc::Global;
 
 /// Makes a file for an entry that is planned, a directory or an ordinary file, and answers its full name.
@@ -37,6 +39,7 @@ pub(crate) fn add_file<D: Disk>(
     ensures unwritten { IsTrue D.told → IfRefused result (λ r. added (D.tape disk.old) (D.tape disk.new) ≡ []) }
     ensures works { Works session.old session.new }
     ensures cause { HasCause cause_of_stop (D.tape disk.old) (D.tape disk.new) result }
+    ensures frame { WritesUsable D.told (D.tape disk.old) (D.tape disk.new) }
     ensures alone { DiskAlone (D.tape disk.old) (D.tape disk.new) }
 {
     let fresh = reserve_new(alloc, session, disk, entry, 0)?;

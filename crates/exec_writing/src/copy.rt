@@ -2,16 +2,17 @@
 ghost use Rattle.alto_words.specs.Fid.{sys_dir};
 ghost use Rattle.disk_records.specs.Addresses.{pages_of};
 ghost use Rattle.disk_records.specs.Causes.{HasCause};
+ghost use Rattle.disk_records.specs.Frames.{WritesUsable};
 ghost use Rattle.disk_records.specs.Tapes.{DiskAlone, added, pack};
 ghost use Rattle.exec_writing.specs.Entries.{OperandsRefuse};
 ghost use Rattle.exec_writing.specs.Plans.{IsCopying, MayCopy, copied};
 ghost use Rattle.exec_writing.specs.Writes.{WritesLine};
 ghost use Rattle.exec_session.specs.Meant.{IfHint, IfRefused, LooksAbout, MayObey, Stays, TakesLine, kept};
-ghost use Rattle.exec_session.specs.Rooms.{pages_planned};
+ghost use Rattle.exec_steps.specs.Rooms.{pages_planned};
 ghost use Rattle.exec_session.specs.Stops.{cause_of_stop};
 ghost use Rattle.exec_session.specs.Turned.{Begins};
-ghost use Rattle.exec_session.specs.Asked.{MayGrowFile, Works, made_fid};
-ghost use Rattle.exec_session.specs.Midway.{StepsOn};
+ghost use Rattle.exec_steps.specs.Asked.{MayGrowFile, Works, made_fid};
+ghost use Rattle.exec_steps.specs.Midway.{StepsOn};
 ghost use Rattle.exec_words.specs.Typed.{is_typed_path};
 ghost use Rattle.exec_words.specs.declared.line.Line.TheVariants as line;
 ghost use Rattle.exec_words.specs.declared.line.Path.{Path};
@@ -28,10 +29,8 @@ use crate::placing::plan_place;
 use crate::reserving::reserve_new;
 use alto_words::Fid;
 use disk_records::Disk;
-use exec_session::{
-    FileRef, NewEntry, Session, Stop, bytes_of, find_target, grow_file, make_entered, open_mark,
-    stamp_file,
-};
+use exec_session::{FileRef, Session, Stop, bytes_of, find_target};
+use exec_steps::{NewEntry, grow_file, make_entered, open_mark, stamp_file};
 use exec_words::{Path, Target, made_text};
 use std::alloc::Global;
 
@@ -81,6 +80,7 @@ fn fill_copy<D: Disk>(
     ensures unrefused { IfRefused result (λ r. ⊥) }
     ensures cause { HasCause cause_of_stop (D.tape disk.old) (D.tape disk.new) result }
     ensures works { Works session.old session.new }
+    ensures frame { WritesUsable D.told (D.tape disk.old) (D.tape disk.new) }
     ensures alone { DiskAlone (D.tape disk.old) (D.tape disk.new) }
 {
     if bytes.is_empty() {
@@ -107,6 +107,7 @@ fn write_copy<D: Disk>(
     ensures unrefused { IfRefused result (λ r. ⊥) }
     ensures cause { HasCause cause_of_stop (D.tape disk.old) (D.tape disk.new) result }
     ensures works { Works session.old session.new }
+    ensures frame { WritesUsable D.told (D.tape disk.old) (D.tape disk.new) }
     ensures alone { DiskAlone (D.tape disk.old) (D.tape disk.new) }
 {
     let file = make_entered(session, disk, entry, false, fresh)?;
@@ -133,6 +134,7 @@ fn apply_copy<D: Disk>(
     ensures unwritten { IsTrue D.told → IfRefused result (λ r. added (D.tape disk.old) (D.tape disk.new) ≡ []) }
     ensures works { Works session.old session.new }
     ensures cause { HasCause cause_of_stop (D.tape disk.old) (D.tape disk.new) result }
+    ensures frame { WritesUsable D.told (D.tape disk.old) (D.tape disk.new) }
     ensures alone { DiskAlone (D.tape disk.old) (D.tape disk.new) }
 {
     let bytes = bytes_of(alloc, session, disk, &plan.source)?;
@@ -163,6 +165,7 @@ pub fn copy_file<D: Disk>(
     ensures unwritten { IsTrue D.told → IfRefused result (λ r. added (D.tape disk.old) (D.tape disk.new) ≡ []) }
     ensures stays { Stays (D.tape disk.new) session.old session.new }
     ensures cause { HasCause cause_of_stop (D.tape disk.old) (D.tape disk.new) result }
+    ensures frame { WritesUsable D.told (D.tape disk.old) (D.tape disk.new) }
     ensures alone { DiskAlone (D.tape disk.old) (D.tape disk.new) }
 {
     let plan = plan_copy(session, disk, target, path)?;

@@ -1,22 +1,24 @@
 // A file that goes with its entry.
 ghost use Rattle.disk_records.specs.Addresses.{pages_of};
 ghost use Rattle.disk_records.specs.Causes.{HasCause};
+ghost use Rattle.disk_records.specs.Frames.{WritesUsable};
 ghost use Rattle.disk_records.specs.Tapes.{DiskAlone, pack};
 ghost use Rattle.exec_writing.specs.Dropping.{MayDropFound, to_drop};
 ghost use Rattle.exec_writing.specs.Drops.{DropsFound};
 ghost use Rattle.exec_session.specs.Meant.{IfRefused, kept, kept_replied, replied};
 ghost use Rattle.exec_session.specs.Stops.{cause_of_stop};
 ghost use Rattle.exec_session.specs.Turned.{Begins, SameBut, Turned};
-ghost use Rattle.exec_session.specs.Asked.{Works};
-ghost use Rattle.exec_session.specs.Midway.{StepsOn};
+ghost use Rattle.exec_steps.specs.Asked.{Works};
+ghost use Rattle.exec_steps.specs.Midway.{StepsOn};
 ghost use Rattle.exec_words.specs.declared.line.Line.{Line};
-ghost use Rattle.session_model.specs.Keeping.{Kept};
+ghost use Rattle.session_model.specs.Keeping.{Formed, Kept};
 ghost use Rattle.session_model.specs.Turning.{State};
 ghost use Rattle.std.specs.Prelude.{IsTrue, [], length, ◌∷◌, ◌≡◌};
 
 use directory::free_slot;
 use disk_records::{Disk, Sector};
-use exec_session::{Found, Session, Stop, entered, limit_of, open_mark, written};
+use exec_session::{Found, Session, Stop, entered, limit_of, written};
+use exec_steps::open_mark;
 use exec_words::done_text;
 use file_pages::drop_file;
 use std::alloc::Global;
@@ -37,6 +39,7 @@ pub(crate) fn drop_found<D: Disk>(
     ensures cause { HasCause cause_of_stop (D.tape disk.old) (D.tape disk.new) result }
     ensures works { Works session.old session.new }
     ensures descriptor { session.new.descriptor ≡ session.old.descriptor }
+    ensures frame { WritesUsable D.told (D.tape disk.old) (D.tape disk.new) }
     ensures alone { DiskAlone (D.tape disk.old) (D.tape disk.new) }
 {
     let _limit = limit_of(session);
@@ -66,10 +69,11 @@ pub(crate) fn drop_line<D: Disk>(
 ) -> Result<Vec<u8>, Stop>
     requires shape { session.old.descriptor.shape ≡ (D.tape disk.old).form }
     requires sized { length session.old.hints.table ≡ pages_of (D.tape disk.old).form }
-    ensures turned { (one : Kept) (s : State) (l : Line) → IsTrue D.told → Begins (D.tape disk.old) one s l → SameBut (D.tape disk.old) (D.tape disk.old) one (kept session.old) → DropsFound s l found.now → MayDropFound (pack (D.tape disk.old)) found.now → Turned (D.tape disk.old) (D.tape disk.new) one (kept_replied result (kept session.new)) s l (replied result) }
+    ensures turned { (one : Kept) (s : State) (l : Line) → IsTrue D.told → Begins (D.tape disk.old) one s l → Formed (D.tape disk.old).form one → SameBut (D.tape disk.old) (D.tape disk.old) one (kept session.old) → DropsFound s l found.now → MayDropFound (pack (D.tape disk.old)) found.now → Turned (D.tape disk.old) (D.tape disk.new) one (kept_replied result (kept session.new)) s l (replied result) }
     ensures unrefused { IfRefused result (λ r. ⊥) }
     ensures cause { HasCause cause_of_stop (D.tape disk.old) (D.tape disk.new) result }
     ensures works { Works session.old session.new }
+    ensures frame { WritesUsable D.told (D.tape disk.old) (D.tape disk.new) }
     ensures alone { DiskAlone (D.tape disk.old) (D.tape disk.new) }
 {
     open_mark(session, disk)?;

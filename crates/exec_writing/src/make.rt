@@ -1,5 +1,6 @@
 // `make`: a new file.
 ghost use Rattle.disk_records.specs.Causes.{HasCause};
+ghost use Rattle.disk_records.specs.Frames.{WritesUsable};
 ghost use Rattle.disk_records.specs.Tapes.{DiskAlone, added, pack};
 ghost use Rattle.exec_writing.specs.Entries.{OperandsRefuse, PlansPath};
 ghost use Rattle.exec_session.specs.Meant.{IfHint, IfRefused, LooksAbout, MayObey, Stays, TakesLine};
@@ -15,7 +16,8 @@ ghost use Rattle.std.specs.Prelude.{IfOk, IsErrOf, IsTrue, [], true, ◌*◌, �
 use crate::add_file::add_file;
 use crate::new_entry::plan_named;
 use disk_records::Disk;
-use exec_session::{NewEntry, Session, Stop, find_dir, require_directory};
+use exec_session::{Session, Stop, find_dir, require_directory};
+use exec_steps::NewEntry;
 use exec_words::{Path, made_text};
 use std::alloc::Global;
 
@@ -53,6 +55,7 @@ pub fn make_file<D: Disk>(
     ensures unwritten { IsTrue D.told → IfRefused result (λ r. added (D.tape disk.old) (D.tape disk.new) ≡ []) }
     ensures stays { Stays (D.tape disk.new) session.old session.new }
     ensures cause { HasCause cause_of_stop (D.tape disk.old) (D.tape disk.new) result }
+    ensures frame { WritesUsable D.told (D.tape disk.old) (D.tape disk.new) }
     ensures alone { DiskAlone (D.tape disk.old) (D.tape disk.new) }
 {
     let entry = plan_make(session, disk, path)?;

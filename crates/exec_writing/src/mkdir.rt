@@ -1,6 +1,7 @@
 // `mkdir`: a new directory.
 ghost use Rattle.alto_words.specs.Names.{is_bare_name};
 ghost use Rattle.disk_records.specs.Causes.{HasCause};
+ghost use Rattle.disk_records.specs.Frames.{WritesUsable};
 ghost use Rattle.disk_records.specs.Tapes.{DiskAlone, added, pack};
 ghost use Rattle.exec_writing.specs.Entries.{OperandsRefuse, PlansDir};
 ghost use Rattle.exec_session.specs.Meant.{IfHint, IfRefused, LooksAbout, MayObey, Stays, TakesLine};
@@ -15,7 +16,8 @@ ghost use Rattle.std.specs.Prelude.{IfOk, IsErrOf, IsTrue, [], true, ◌*◌, �
 use crate::add_file::add_file;
 use alto_words::Name;
 use disk_records::Disk;
-use exec_session::{NewEntry, ROOT, Session, Stop, plan_entry, refuse_held_base};
+use exec_session::{ROOT, Session, Stop, refuse_held_base};
+use exec_steps::{NewEntry, plan_entry};
 use exec_words::made_text;
 use std::alloc::Global;
 
@@ -51,6 +53,7 @@ pub fn make_dir<D: Disk>(
     ensures unwritten { IsTrue D.told → IfRefused result (λ r. added (D.tape disk.old) (D.tape disk.new) ≡ []) }
     ensures stays { Stays (D.tape disk.new) session.old session.new }
     ensures cause { HasCause cause_of_stop (D.tape disk.old) (D.tape disk.new) result }
+    ensures frame { WritesUsable D.told (D.tape disk.old) (D.tape disk.new) }
     ensures alone { DiskAlone (D.tape disk.old) (D.tape disk.new) }
 {
     let entry = plan_dir(session, disk, name)?;

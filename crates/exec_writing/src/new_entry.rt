@@ -16,7 +16,8 @@ ghost use Rattle.std.specs.Prelude.{IfOk, IsErrOf, IsTrue, [], true, ◌*◌, �
 
 use alto_words::{Name, Wanted};
 use disk_records::Disk;
-use exec_session::{FileRef, NewEntry, Session, Stop, name_given, plan_entry};
+use exec_session::{FileRef, Session, Stop, name_given};
+use exec_steps::{NewEntry, plan_entry};
 
 /// The base of what is wanted: a bare name, also where a version is stated.
 fn bare_base(wanted: &Wanted) -> Name
@@ -30,10 +31,12 @@ fn bare_base(wanted: &Wanted) -> Name
     }
 }
 
-/// Plans the entry of a new file in a directory, by the directories as they are now.
+/// Plans the entry of a new file in a directory, by the directories as they are now: the name that it gets, and which directories get a page
+/// first. Nothing is written.
 ///
-/// NameTaken: the base is the name of a directory or of a system file; the stated name is there; or no version is left.
-pub(crate) fn plan_named<D: Disk>(
+/// NameTaken: the base is the name of a directory or of a system file; the stated name is there; or no version is left. Misled: an address or a
+/// link of SysDir or of the directory is wrong. DiskFault: the device failed.
+pub fn plan_named<D: Disk>(
     session: &mut Session,
     disk: &mut D,
     dir: FileRef,

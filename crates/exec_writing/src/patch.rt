@@ -1,13 +1,14 @@
 // `patch`: bytes in the place of those of a file.
 ghost use Rattle.disk_records.specs.Addresses.{pages_of};
 ghost use Rattle.disk_records.specs.Causes.{HasCause};
+ghost use Rattle.disk_records.specs.Frames.{WritesUsable};
 ghost use Rattle.disk_records.specs.Tapes.{DiskAlone, added, pack};
 ghost use Rattle.exec_writing.specs.Patching.{MayPatchFile};
 ghost use Rattle.exec_writing.specs.Writing.{WritesAll};
 ghost use Rattle.exec_session.specs.Meant.{IfRefused, MayObey, Stays, TakesLine, kept};
 ghost use Rattle.exec_session.specs.Stops.{cause_of_stop};
-ghost use Rattle.exec_session.specs.Asked.{Works};
-ghost use Rattle.exec_session.specs.Midway.{StepsOn};
+ghost use Rattle.exec_steps.specs.Asked.{Works};
+ghost use Rattle.exec_steps.specs.Midway.{StepsOn};
 ghost use Rattle.file_pages.specs.Putting.{to_put};
 ghost use Rattle.session_model.specs.Streams.{puts};
 ghost use Rattle.std.specs.Prelude.{IfOk, IsTrue, [], length as list_length, min, take, ◌%◌, ◌+◌, ◌-◌, ◌<◌, ◌∷◌, ◌≡◌, ◌≤◌};
@@ -15,7 +16,8 @@ ghost use Rattle.exec_words.specs.declared.line.Line.TheVariants as line;
 
 use crate::measuring::find_measured;
 use disk_records::{Disk, PAGE_BYTES, Sector};
-use exec_session::{FileRef, Session, Stop, limit_of, open_mark, refused, written};
+use exec_session::{FileRef, Session, Stop, limit_of, refuse_streamed, refused, written};
+use exec_steps::open_mark;
 use exec_words::{Refusal, Target, done_text};
 use file_pages::put;
 use std::alloc::Global;
@@ -34,6 +36,7 @@ fn put_part<D: Disk>(
     ensures cause { HasCause cause_of_stop (D.tape disk.old) (D.tape disk.new) result }
     ensures works { Works session.old session.new }
     ensures descriptor { session.new.descriptor ≡ session.old.descriptor }
+    ensures frame { WritesUsable D.told (D.tape disk.old) (D.tape disk.new) }
     ensures alone { DiskAlone (D.tape disk.old) (D.tape disk.new) }
 {
     let _limit = limit_of(session);
@@ -67,6 +70,7 @@ fn put_parts<D: Disk>(
     ensures unrefused { IfRefused result (λ r. ⊥) }
     ensures cause { HasCause cause_of_stop (D.tape disk.old) (D.tape disk.new) result }
     ensures works { Works session.old session.new }
+    ensures frame { WritesUsable D.told (D.tape disk.old) (D.tape disk.new) }
     ensures alone { DiskAlone (D.tape disk.old) (D.tape disk.new) }
 {
     let mut done = 0;
@@ -90,6 +94,7 @@ fn write_patch<D: Disk>(
     ensures unrefused { IfRefused result (λ r. ⊥) }
     ensures cause { HasCause cause_of_stop (D.tape disk.old) (D.tape disk.new) result }
     ensures works { Works session.old session.new }
+    ensures frame { WritesUsable D.told (D.tape disk.old) (D.tape disk.new) }
     ensures alone { DiskAlone (D.tape disk.old) (D.tape disk.new) }
 {
     open_mark(session, disk)?;
@@ -100,9 +105,9 @@ fn write_patch<D: Disk>(
 /// `patch`. Without a byte nothing is written.
 ///
 /// NoSuchName: the file isn't there. IsADirectory: it is a directory. SystemFile: it is DiskDescriptor. Beyond: the bytes would end after
-/// its last one. They are tested in this order, and nothing was written. Misled: an address on the way to the file is wrong, or one of its
-/// links. DiskFault: the device failed. Memory: none was left for a record write, or for the text. After each of these a prefix of the
-/// record writes was done, on a modelled disk, and all of them where memory for the text was refused.
+/// its last one. StreamsOpen: an open stream has it. They are tested in this order, and nothing was written. Misled: an address on the way to
+/// the file is wrong, or one of its links. DiskFault: the device failed. Memory: none was left for a record write, or for the text. After each
+/// of these a prefix of the record writes was done, on a modelled disk, and all of them where memory for the text was refused.
 pub fn patch_bytes<D: Disk>(
     alloc: Global,
     session: &mut Session,
@@ -116,6 +121,7 @@ pub fn patch_bytes<D: Disk>(
     ensures unwritten { IsTrue D.told → IfRefused result (λ r. added (D.tape disk.old) (D.tape disk.new) ≡ []) }
     ensures stays { Stays (D.tape disk.new) session.old session.new }
     ensures cause { HasCause cause_of_stop (D.tape disk.old) (D.tape disk.new) result }
+    ensures frame { WritesUsable D.told (D.tape disk.old) (D.tape disk.new) }
     ensures alone { DiskAlone (D.tape disk.old) (D.tape disk.new) }
 {
     let found = find_measured(session, disk, target)?;
@@ -123,6 +129,7 @@ pub fn patch_bytes<D: Disk>(
     if (length as u64) < offset as u64 + bytes.len() as u64 {
         return refused(Refusal::Beyond { length });
     }
+    refuse_streamed(session, found.file.fid)?;
     if bytes.is_empty() {
         return Ok(done_text(alloc)?);
     }

@@ -15,7 +15,8 @@ ghost use Rattle.std.specs.Prelude.{IfOk, IsErrOf, IsTrue, Some, [], true, â—Œ*â
 use crate::new_entry::plan_named;
 use alto_words::Fid;
 use disk_records::Disk;
-use exec_session::{NewEntry, Session, Stop, find_dir, refuse_descriptor, refused};
+use exec_session::{Session, Stop, find_dir, refuse_descriptor, refused};
+use exec_steps::NewEntry;
 use exec_words::{Path, Refusal};
 
 /// Refuses a file that is no ordinary one, and a directory that is none.

@@ -3,16 +3,17 @@ ghost use Rattle.alto_words.specs.Fid.{sys_dir};
 ghost use Rattle.directory.specs.Leaving.{to_leave};
 ghost use Rattle.disk_records.specs.Addresses.{pages_of};
 ghost use Rattle.disk_records.specs.Causes.{HasCause};
+ghost use Rattle.disk_records.specs.Frames.{WritesUsable};
 ghost use Rattle.disk_records.specs.Tapes.{DiskAlone, added, pack};
 ghost use Rattle.exec_writing.specs.Entries.{OperandsRefuse};
 ghost use Rattle.exec_writing.specs.Plans.{IsRenaming, MayChange, MayLeave, MayRename, changed_entry, renamed};
 ghost use Rattle.exec_writing.specs.Writes.{WritesLine};
 ghost use Rattle.exec_session.specs.Meant.{IfHint, IfRefused, LooksAbout, MayObey, Stays, TakesLine, kept};
-ghost use Rattle.exec_session.specs.Rooms.{pages_planned};
+ghost use Rattle.exec_steps.specs.Rooms.{pages_planned};
 ghost use Rattle.exec_session.specs.Stops.{cause_of_stop};
 ghost use Rattle.exec_session.specs.Turned.{Begins};
-ghost use Rattle.exec_session.specs.Asked.{Works};
-ghost use Rattle.exec_session.specs.Midway.{StepsOn};
+ghost use Rattle.exec_steps.specs.Asked.{Works};
+ghost use Rattle.exec_steps.specs.Midway.{StepsOn};
 ghost use Rattle.exec_words.specs.Typed.{is_typed_path};
 ghost use Rattle.exec_words.specs.declared.line.Line.TheVariants as line;
 ghost use Rattle.exec_words.specs.declared.line.Path.{Path};
@@ -31,9 +32,9 @@ use crate::placing::plan_place;
 use directory::leave;
 use disk_records::{Disk, Sector};
 use exec_session::{
-    FileRef, Found, NewEntry, Session, Stop, enter_file, entered, find_path, limit_of, open_mark,
-    reserve_pages, widen_first, written,
+    FileRef, Found, Session, Stop, entered, find_path, limit_of, refuse_streamed, written,
 };
+use exec_steps::{NewEntry, enter_file, open_mark, reserve_pages, widen_first};
 use exec_words::{Path, done_text};
 use file_pages::title;
 use page_seeking::locate;
@@ -97,6 +98,7 @@ fn title_file<D: Disk>(session: &mut Session, disk: &mut D, plan: &Renaming) -> 
     ensures cause { HasCause cause_of_stop (D.tape disk.old) (D.tape disk.new) result }
     ensures works { Works session.old session.new }
     ensures descriptor { session.new.descriptor ≡ session.old.descriptor }
+    ensures frame { WritesUsable D.told (D.tape disk.old) (D.tape disk.new) }
     ensures alone { DiskAlone (D.tape disk.old) (D.tape disk.new) }
 {
     let _limit = limit_of(session);
@@ -119,6 +121,7 @@ fn leave_dir<D: Disk>(session: &mut Session, disk: &mut D, found: &Found) -> Res
     ensures cause { HasCause cause_of_stop (D.tape disk.old) (D.tape disk.new) result }
     ensures works { Works session.old session.new }
     ensures descriptor { session.new.descriptor ≡ session.old.descriptor }
+    ensures frame { WritesUsable D.told (D.tape disk.old) (D.tape disk.new) }
     ensures alone { DiskAlone (D.tape disk.old) (D.tape disk.new) }
 {
     let _limit = limit_of(session);
@@ -143,6 +146,7 @@ fn change_entry<D: Disk>(session: &mut Session, disk: &mut D, plan: &Renaming) -
     ensures cause { HasCause cause_of_stop (D.tape disk.old) (D.tape disk.new) result }
     ensures works { Works session.old session.new }
     ensures descriptor { session.new.descriptor ≡ session.old.descriptor }
+    ensures frame { WritesUsable D.told (D.tape disk.old) (D.tape disk.new) }
     ensures alone { DiskAlone (D.tape disk.old) (D.tape disk.new) }
 {
     let file = plan.found.file.fid;
@@ -165,6 +169,7 @@ fn rename_entry<D: Disk>(
     ensures cause { HasCause cause_of_stop (D.tape disk.old) (D.tape disk.new) result }
     ensures works { Works session.old session.new }
     ensures descriptor { session.new.descriptor ≡ session.old.descriptor }
+    ensures frame { WritesUsable D.told (D.tape disk.old) (D.tape disk.new) }
     ensures alone { DiskAlone (D.tape disk.old) (D.tape disk.new) }
 {
     widen_first(session, disk, &plan.entry, fresh)?;
@@ -174,7 +179,7 @@ fn rename_entry<D: Disk>(
 
 /// Renames a file as planned, once the sectors for pages of directories are reserved and the mark is open.
 ///
-/// Full: too few sectors are free, and nothing was written. Misled: an address or a link of one of the directories doesn't lead to its page,
+/// StreamsOpen: an open stream has the file. Full: too few sectors are free. In this order, and nothing was written. Misled: an address or a link of one of the directories doesn't lead to its page,
 /// or DiskDescriptor isn't where it was. DiskFault: the device failed. Memory: none was left. After these three a prefix of the record
 /// writes was done, on a modelled disk.
 fn apply_rename<D: Disk>(
@@ -189,8 +194,10 @@ fn apply_rename<D: Disk>(
     ensures unwritten { IsTrue D.told → IfRefused result (λ r. added (D.tape disk.old) (D.tape disk.new) ≡ []) }
     ensures works { Works session.old session.new }
     ensures cause { HasCause cause_of_stop (D.tape disk.old) (D.tape disk.new) result }
+    ensures frame { WritesUsable D.told (D.tape disk.old) (D.tape disk.new) }
     ensures alone { DiskAlone (D.tape disk.old) (D.tape disk.new) }
 {
+    refuse_streamed(session, plan.found.file.fid)?;
     let fresh = reserve_pages(alloc, session, disk, plan.entry.pages() as u32)?;
     open_mark(session, disk)?;
     rename_entry(session, disk, plan, &fresh)
@@ -200,8 +207,8 @@ fn apply_rename<D: Disk>(
 /// comes.
 ///
 /// NoSuchName: the file or the new name's directory isn't there. IsADirectory: the file is a directory. NotADirectory: the new name's
-/// directory isn't one. SystemFile: the file is DiskDescriptor. NameTaken: the name can't be given. Full: too few sectors are free for
-/// pages of directories. In this order; nothing is written then.
+/// directory isn't one. SystemFile: the file is DiskDescriptor. NameTaken: the name can't be given. StreamsOpen: an open stream has
+/// the file. Full: too few sectors are free for pages of directories. In this order; nothing is written then.
 ///
 /// Misled: an address on the way to the file, or one of the directories' links, is wrong. DiskFault: the device failed. Memory: none was
 /// left for the addresses, for a record write or for the text. After each of them a prefix of the record writes was done, on a modelled
@@ -218,6 +225,7 @@ pub fn rename_file<D: Disk>(
     ensures unwritten { IsTrue D.told → IfRefused result (λ r. added (D.tape disk.old) (D.tape disk.new) ≡ []) }
     ensures stays { Stays (D.tape disk.new) session.old session.new }
     ensures cause { HasCause cause_of_stop (D.tape disk.old) (D.tape disk.new) result }
+    ensures frame { WritesUsable D.told (D.tape disk.old) (D.tape disk.new) }
     ensures alone { DiskAlone (D.tape disk.old) (D.tape disk.new) }
 {
     let plan = plan_rename(session, disk, old_path, new_path)?;

@@ -4,8 +4,9 @@ ghost use Rattle.disk_records.specs.Causes.{HasCause};
 ghost use Rattle.disk_records.specs.Packs.{is_free_at};
 ghost use Rattle.disk_records.specs.Tapes.{Looks, pack};
 ghost use Rattle.exec_writing.specs.Entries.{new_refusal};
-ghost use Rattle.exec_session.specs.Meant.{IfHint, IfRefused, IsSameButTable};
-ghost use Rattle.exec_session.specs.Rooms.{pages_planned};
+ghost use Rattle.exec_session.specs.Meant.{IfHint, IfRefused};
+ghost use Rattle.exec_steps.specs.Asked.{IsSameButTable};
+ghost use Rattle.exec_steps.specs.Rooms.{pages_planned};
 ghost use Rattle.exec_session.specs.Stops.{cause_of_stop};
 ghost use Rattle.laws_hint.specs.TableLaws.{TableReserves};
 ghost use Rattle.pack_model.specs.hints.Tables.{TableTrue};
@@ -16,15 +17,16 @@ ghost use Rattle.session_model.specs.Refusals.{most_serials};
 ghost use Rattle.std.specs.Prelude.{All, IfOk, IsTrue, None, OnErr, OnOk, Some, length, true, ◌+◌, ◌-◌, ◌<◌, ◌≡◌, ◌≤◌};
 
 use disk_records::Disk;
-use exec_session::{NewEntry, Session, Stop, require_serial, reserve_pages};
+use exec_session::{Session, Stop};
+use exec_steps::{NewEntry, require_serial, reserve_pages};
 use std::alloc::Global;
 
 /// Takes free sectors for a new file with its entry, and for so many pages besides, at most 60,000: the pages of directories, the leader, the
 /// first data page, and these. Answers their virtual addresses, rising.
 ///
 /// SerialsSpent: no serial is left for the file. Full: too few sectors are free. In this order. DiskFault: the device failed. Memory: none
-/// was left for the addresses.
-pub(crate) fn reserve_new<D: Disk>(
+/// was left for the addresses. Nothing is written; of what the session keeps the table of busy bits alone is another.
+pub fn reserve_new<D: Disk>(
     alloc: Global,
     session: &mut Session,
     disk: &mut D,

@@ -2,6 +2,7 @@
 ghost use Rattle.directory.specs.Asked.{DirIsFound};
 ghost use Rattle.dir_slots.specs.Items.{item_of, items_of};
 ghost use Rattle.disk_records.specs.Causes.{HasCause};
+ghost use Rattle.disk_records.specs.Frames.{WritesUsable};
 ghost use Rattle.disk_records.specs.Tapes.{DiskAlone, added, pack};
 ghost use Rattle.exec_writing.specs.Drops.{FindsDropped};
 ghost use Rattle.exec_writing.specs.Dropping.{HasEntries};
@@ -106,6 +107,7 @@ pub fn remove_dir<D: Disk>(
     ensures unwritten { IsTrue D.told → IfRefused result (λ r. added (D.tape disk.old) (D.tape disk.new) ≡ []) }
     ensures stays { Stays (D.tape disk.new) session.old session.new }
     ensures cause { HasCause cause_of_stop (D.tape disk.old) (D.tape disk.new) result }
+    ensures frame { WritesUsable D.told (D.tape disk.old) (D.tape disk.new) }
     ensures alone { DiskAlone (D.tape disk.old) (D.tape disk.new) }
 {
     let found = find_removed(alloc, session, disk, name)?;

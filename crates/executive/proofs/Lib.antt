@@ -1,8 +1,6 @@
 mod Answering
 mod Contents
-mod FirstRefusals
 mod Limits
 mod Names
 mod Passing
-mod SettingTime
 mod Untaken

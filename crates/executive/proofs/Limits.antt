@@ -1,5 +1,5 @@
 -- The limit of a tally, put back after a line: the turn is the same, and the reply says what the line says.
-use Rattle.std.proofs.Common.{◌≡◌, ◌≢◌, ℕ, suc, List, [], ◌∷◌, Vec, Result, Ok, Err, refl, sym, subst, ap, ◌∙◌}
+use Rattle.std.proofs.Common.{◌≡◌, ◌≢◌, ℕ, suc, List, [], ◌∷◌, Vec, Result, Ok, Err, refl, sym, subst, ap, arith, ◌∙◌}
 use Rattle.disk_records.specs.Causes.{HasCause, IsCause}
 use Rattle.disk_records.specs.Packs.{Pack}
 use Rattle.disk_records.specs.Tapes.{Taped, pack}
@@ -91,7 +91,7 @@ stopped_limit stop.DiskFault k = refl
 stopped_limit stop.Memory k = refl
 
 in_need_formed : (form : Shape) (k : Kept) → Formed form k → Formed form (in_need k)
-in_need_formed form k h = record { shape = h.shape; bits = h.bits; memory = h.memory; streams = h.streams; apart = h.apart }
+in_need_formed form k h = record { shape = h.shape; bits = h.bits; memory = h.memory; streams = λ i d less. absurd (omega (arith, less)); apart = tt }
 
 formed_up_to : (form : Shape) (k : Kept) (limit : ℕ) → Formed form k → Formed form (kept_up_to limit k)
 formed_up_to form k limit h = record { shape = h.shape; bits = h.bits; memory = h.memory; streams = h.streams; apart = h.apart }

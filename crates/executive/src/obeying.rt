@@ -1,5 +1,6 @@
 // A line that is obeyed.
 ghost use Rattle.disk_records.specs.Causes.{HasCause, IsCause};
+ghost use Rattle.disk_records.specs.Frames.{WritesUsable};
 ghost use Rattle.disk_records.specs.Tapes.{DiskAlone, added};
 ghost use Rattle.exec_session.specs.Ends.{cause_of_reply};
 ghost use Rattle.exec_session.specs.Meant.{IfRefused, MayObey, TakesLine, kept};
@@ -12,12 +13,13 @@ ghost use Rattle.std.specs.Prelude.{IsTrue, [], false, true, ◌≡◌, ◌≢�
 
 use crate::free::free_pages;
 use crate::list::list_names;
-use crate::moment::set_time;
-use crate::refusing::refuse_line;
 use crate::stat::stat_file;
 use crate::type_out::type_file;
 use disk_records::Disk;
-use exec_session::{Session, Stop, answer, limit_of, quit, stopped};
+use exec_memory::{
+    fetch_word, remove_levels, restore_levels, return_block, set_time, store_word, take_block,
+};
+use exec_session::{Session, Stop, answer, limit_of, quit, refuse_line, stopped};
 use exec_words::{Line, Refusal, Reply};
 use exec_writing::{
     append_bytes, copy_file, cut_file, delete_file, make_dir, make_file, patch_bytes, remove_dir,
@@ -39,6 +41,7 @@ fn obey_line<D: Disk>(
     ensures unwritten { IsTrue D.told → IfRefused result (λ r. added (D.tape disk.old) (D.tape disk.new) ≡ []) }
     ensures formed { Formed (D.tape disk.new).form (kept session.new) }
     ensures cause { HasCause cause_of_stop (D.tape disk.old) (D.tape disk.new) result }
+    ensures frame { WritesUsable D.told (D.tape disk.old) (D.tape disk.new) }
     ensures alone { DiskAlone (D.tape disk.old) (D.tape disk.new) }
 {
     match line {
@@ -62,17 +65,17 @@ fn obey_line<D: Disk>(
         Line::RemoveDir { name } => remove_dir(alloc, session, disk, name),
         Line::Free => free_pages(alloc, session, disk),
         Line::SetTime { moment } => set_time(alloc, session, *moment),
+        Line::Store { at, word } => store_word(alloc, session, *at, *word),
+        Line::Fetch { at } => fetch_word(alloc, session, *at),
+        Line::Block { words } => take_block(alloc, session, *words),
+        Line::Unblock { at } => return_block(alloc, session, *at),
+        Line::Junta { level } => remove_levels(alloc, session, *level),
+        Line::CounterJunta => restore_levels(alloc, session),
         Line::OpenStream { .. }
         | Line::Get { .. }
         | Line::PutBytes { .. }
         | Line::Seek { .. }
         | Line::Close { .. }
-        | Line::Store { .. }
-        | Line::Fetch { .. }
-        | Line::Block { .. }
-        | Line::Unblock { .. }
-        | Line::Junta { .. }
-        | Line::CounterJunta
         | Line::OutLoad { .. }
         | Line::InLoad { .. }
         | Line::Scavenge
@@ -99,6 +102,7 @@ pub fn obey<D: Disk>(alloc: Global, session: &mut Session, disk: &mut D, line: &
     ensures limit { (kept session.new).tally.limit ≡ (kept session.old).tally.limit }
     ensures formed { Formed (D.tape disk.new).form (kept session.new) }
     ensures cause { IsCause (D.tape disk.old) (D.tape disk.new) (cause_of_reply result) }
+    ensures frame { WritesUsable D.told (D.tape disk.old) (D.tape disk.new) }
     ensures alone { DiskAlone (D.tape disk.old) (D.tape disk.new) }
 {
     match refuse_line(session, line) {

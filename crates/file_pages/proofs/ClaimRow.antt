@@ -6,6 +6,7 @@ use Rattle.alto_words.specs.declared.fid.Fid.{Fid}
 use Rattle.disk_records.proofs.FirstOnes.{first_all, first_front, first_then}
 use Rattle.disk_records.proofs.Growing.{added-twice, nothing_added, pack-after}
 use Rattle.disk_records.specs.Addresses.{real_of}
+use Rattle.disk_records.specs.Frames.{IsFreeSector}
 use Rattle.disk_records.specs.Commands.{claim_writes, value_writes}
 use Rattle.disk_records.specs.Events.{IsFirstOf, writes_in}
 use Rattle.disk_records.specs.Labels.{label_of}
@@ -15,7 +16,7 @@ use Rattle.disk_records.specs.declared.records.Event.{Event}
 use Rattle.disk_records.specs.declared.records.Page.{Page}
 use Rattle.disk_records.specs.declared.records.Place.{Place}
 use Rattle.disk_records.specs.declared.shape.Shape.{Shape}
-use Rattle.label_check.specs.Guarded.{Guarded, IsFree}
+use Rattle.label_check.specs.Guarded.{Guarded}
 use Rattle.label_check.specs.declared.errors.GuardError.{GuardError}
 use Rattle.laws_operation.proofs.grow.Laws.{claims_keep_unclaimed_free}
 use Rattle.page_seeking.specs.Seeking.{page_number}
@@ -87,7 +88,7 @@ module _ (writes : List Event) (most : ℕ) (a b c : Taped) (f : Fid) (before pr
   both = added-twice one.grown two.grown
 
   -- it was claimed
-  pub midway_goes_on : Guarded {T = Unit {0}} (IsFree at) at (value_writes at (next_claim a.form (page_number f (suc before)) previous bytes past at later).value) (claim_writes at (next_claim a.form (page_number f (suc before)) previous bytes past at later).label (next_claim a.form (page_number f (suc before)) previous bytes past at later).value) 2 b c (Ok tt)
+  pub midway_goes_on : Guarded {T = Unit {0}} (λ p. IsFreeSector p at) at (value_writes at (next_claim a.form (page_number f (suc before)) previous bytes past at later).value) (claim_writes at (next_claim a.form (page_number f (suc before)) previous bytes past at later).label (next_claim a.form (page_number f (suc before)) previous bytes past at later).value) 2 b c (Ok tt)
       → Midway writes most a c f (suc before) at (drop 512 bytes) past later
   midway_goes_on guarded =
       let wrote : added b c ≡ claim_writes at next.label next.value = guarded.ok.wrote in
@@ -110,7 +111,7 @@ module _ (writes : List Event) (most : ℕ) (a b c : Taped) (f : Fid) (before pr
 
   -- it wasn't
   pub midway_breaks_off : (error : GuardError) (place : Place) (held : ℕ) (wanted : Page) (e : FileError) → e ≡ error_at place held wanted error
-      → Guarded {T = Unit {0}} (IsFree at) at (value_writes at (next_claim a.form (page_number f (suc before)) previous bytes past at later).value) (claim_writes at (next_claim a.form (page_number f (suc before)) previous bytes past at later).label (next_claim a.form (page_number f (suc before)) previous bytes past at later).value) 2 b c (Err error)
+      → Guarded {T = Unit {0}} (λ p. IsFreeSector p at) at (value_writes at (next_claim a.form (page_number f (suc before)) previous bytes past at later).value) (claim_writes at (next_claim a.form (page_number f (suc before)) previous bytes past at later).label (next_claim a.form (page_number f (suc before)) previous bytes past at later).value) 2 b c (Err error)
       → Makes writes most a c (Err e)
   midway_breaks_off error place held wanted e same guarded =
       let sum : length (added a b ++ (claim_writes at next.label next.value ++ left)) ≡ length (added a b) + length (claim_writes at next.label next.value ++ left) = length-append (added a b) (claim_writes at next.label next.value ++ left) in

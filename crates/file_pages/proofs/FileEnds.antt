@@ -16,7 +16,7 @@ use Rattle.pack_model.specs.states.Whole.{Whole}
 use Rattle.page_seeking.proofs.Lasting.{is_last}
 use Rattle.page_seeking.specs.Refs.{MisledBy}
 use Rattle.page_seeking.specs.Seeking.{EndsAtPage, IsLast, file_length, page_number}
-use Rattle.file_pages.proofs.Remaining.{not_last}
+use Rattle.file_pages.proofs.Remaining.{more_after}
 use Rattle.file_pages.specs.Ends.{IsDataPage}
 use Rattle.file_pages.specs.Releasing.{Follows, IsKnown, MisledSince}
 
@@ -57,7 +57,7 @@ last_of {p = p} {at = at} {info} whole told page end =
 
 -- and the last isn't full
 pub last_is_short : {told : Bool} {p : Pack} {f : Fid} {number at : ℕ} {info : PageInfo} → Whole p → IsTrue told → IsDataPage told p f number at info → number ≡ page_of_byte (file_length p f) → info.bytes ≢ 512
-last_is_short {p = p} {f} {number} {at} {info} whole told page is full = not_last p f number at info (page.known told) (inr full) whole is
+last_is_short {p = p} {f} {number} {at} {info} whole told page is full = let more = more_after p f number at info (page.known told) (inr full) whole in omega (arith, more, is)
 
 -- ---- a link that is followed from it
 pub follows_itself : {p : Pack} {page : Page} {at : ℕ} {info : PageInfo} → IsKnown p page at info → Follows p p page at info

@@ -1,20 +1,12 @@
 -- Pages that a cache forgets.
-use Rattle.std.proofs.Common.{Bool, List, None, Some, [], cond, false, refl, subst, sym, true, ◌∙◌, ◌∷◌, ◌≡◌, ◌≢◌}
+use Rattle.std.proofs.Common.{Bool, List, None, Some, [], cond, false, refl, subst, sym, true, ◌∷◌, ◌≡◌}
 use Rattle.std.specs.Option.{option_map}
 use Rattle.std.specs.Prelude.{find}
 use Rattle.disk_records.specs.declared.records.Page.{Page}
-use Rattle.hint_cache.proofs.Pages.{same_page}
 use Rattle.hint_cache.specs.Caches.{Cached, address_in, is_page, without}
 use Rattle.hint_cache.specs.declared.cache.Entry.{Entry}
+use Rattle.page_seeking.proofs.Forgetting.{none_there, same_elsewhere}
 use Rattle.file_pages.specs.Releasing.{KeepsOthers, ListsNoMore}
-
-none_there : (page : Page) (entries : List Entry) → address_in (without page entries) page ≡ None
-none_there page [] = refl
-none_there page (x ∷ xs) = by (is_page x.page page) refl (none_there page xs)
-  where
-    by : (b : Bool) → is_page x.page page ≡ b → address_in (without page xs) page ≡ None → address_in (without page (x ∷ xs)) page ≡ None
-    by true is rest = rw is rest
-    by false is rest = rw (is, is) rest
 
 no_more : (page other : Page) (entries : List Entry) → address_in entries other ≡ None → address_in (without page entries) other ≡ None
 no_more page other [] e = e
@@ -33,15 +25,5 @@ pub lists_no_more : (old new : Cached) (page : Page) → new ≡ record old { en
 lists_no_more old new page is other none = subst (λ (c : Cached). address_in c.entries other ≡ None) (sym is) (no_more page other old.entries none)
 
 -- each other page is listed as it was
-same_elsewhere : (page other : Page) (entries : List Entry) → other ≢ page → address_in (without page entries) other ≡ address_in entries other
-same_elsewhere page other [] apart = refl
-same_elsewhere page other (x ∷ xs) apart = by (is_page x.page other) refl (is_page x.page page) refl (same_elsewhere page other xs apart)
-  where
-    by : (b : Bool) → is_page x.page other ≡ b → (d : Bool) → is_page x.page page ≡ d → address_in (without page xs) other ≡ address_in xs other → address_in (without page (x ∷ xs)) other ≡ address_in (x ∷ xs) other
-    by true is true it rest = absurd (apart (sym (same_page x.page other is) ∙ same_page x.page page it))
-    by true is false it rest = rw (it, is) refl
-    by false is true it rest = rw (it, is) rest
-    by false is false it rest = rw (it, is) rest
-
 pub keeps_others : (old new : Cached) (page : Page) → new ≡ record old { entries = without page old.entries } → KeepsOthers page old new
 keeps_others old new page is other apart = subst (λ (c : Cached). address_in c.entries other ≡ address_in old.entries other) (sym is) (same_elsewhere page other old.entries apart)

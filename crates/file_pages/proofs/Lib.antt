@@ -15,6 +15,7 @@ mod FreshWords
 mod Going
 mod Gone
 mod GrownFile
+mod GrownEnd
 mod GrownHandy
 mod GrownPages
 mod Growth

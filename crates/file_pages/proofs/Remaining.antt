@@ -1,5 +1,6 @@
 -- Which pages of a file are left midway.
-use Rattle.std.proofs.Common.{Bool, List, None, Option, Some, [], add-one, ap, arith, cond, false, inl, inr, refl, set, suc, sym, true, zero, ℕ, ◌++◌, ◌+◌, ◌∙◌, ◌∷◌, ◌≡◌, ◌≢◌, ◌≤◌, ◌⊎◌}
+use Rattle.std.proofs.Common.{Bool, List, None, Option, Some, [], add-one, ap, arith, cond, false, inl, inr, refl, set, suc, sym, true, zero, ℕ, ◌++◌, ◌+◌, ◌∙◌, ◌∷◌, ◌≡◌, ◌≢◌, ◌<◌, ◌≤◌, ◌⊎◌}
+use Rattle.std.proofs.lemmas.Bool.{cases_eq}
 use Rattle.alto_words.specs.declared.fid.Fid.{Fid}
 use Rattle.disk_records.specs.Commands.{release_writes}
 use Rattle.disk_records.specs.Packs.{Pack, carried, is_usable, sector_at}
@@ -48,15 +49,14 @@ pub record NextOf (p : Pack) (f : Fid) (number : ℕ) (pages : List ℕ) : Type 
   pub alone : (i : ℕ) → carried p i ≡ Some (page_number f (number + 1)) → i ≡ to
   pub left : AreAfter p f (number + 1) rest
 
-pub not_last : (p : Pack) (f : Fid) (number at : ℕ) (info : PageInfo) → IsKnown p (page_number f number) at info → IsFull (page_number f number) info.bytes → Whole p → number ≡ page_of_byte (file_length p f) → ⊥
-not_last p f number at info known (inl first) whole last = omega (arith, first, last)
-not_last p f zero at info known (inr full) whole last = omega (arith, last)
-not_last p f (suc k) at info known (inr full) whole last =
-    let less = full_page_is_not_the_last p f k at whole (record { sector = carried_place p whole at (page_number f (suc k)) (known.carries); sized = known.sized; bytes = sym (ap (λ (i : PageInfo). i.bytes) (known.tells)) ∙ full }) in
-    omega (arith, less, last)
+pub more_after : (p : Pack) (f : Fid) (number at : ℕ) (info : PageInfo) → IsKnown p (page_number f number) at info → IsFull (page_number f number) info.bytes → Whole p → number < page_of_byte (file_length p f)
+more_after p f number at info known (inl first) whole = omega (arith, first)
+more_after p f zero at info known (inr full) whole = omega arith
+more_after p f (suc k) at info known (inr full) whole =
+    full_page_is_not_the_last p f k at whole (record { sector = carried_place p whole at (page_number f (suc k)) (known.carries); sized = known.sized; bytes = sym (ap (λ (i : PageInfo). i.bytes) (known.tells)) ∙ full })
 
 pub next_of : (p : Pack) (f : Fid) (number at : ℕ) (info : PageInfo) (pages : List ℕ) → IsKnown p (page_number f number) at info → IsFull (page_number f number) info.bytes → AreAfter p f number pages → NextOf p f number pages
-next_of p f number at info [] known full left = let count = left.count in absurd (not_last p f number at info known full left.whole (omega (arith, count)))
+next_of p f number at info [] known full left = let count = left.count in let more = more_after p f number at info known full left.whole in absurd (omega (arith, count, more))
 next_of p f number at info (x ∷ xs) known full left =
     let count = left.count in
     let next : number + 1 ≡ suc number = add-one number in
@@ -83,6 +83,17 @@ short_end p f number at info known whole first short =
     let size = short_size p f number at info known whole first short in
     let most = most_bytes p (page_number f number) at info known in
     omega (arith, size, first, short, most)
+
+-- no page has a number past that of the last
+pub up_to_end : (p : Pack) (f : Fid) (number at : ℕ) (info : PageInfo) → IsKnown p (page_number f number) at info → Whole p → number ≤ page_of_byte (file_length p f)
+up_to_end p f zero at info known whole = omega arith
+up_to_end p f (suc k) at info known whole = elim (cases_eq info.bytes 512) [
+  | inl full ↦ let more = more_after p f (suc k) at info known (inr full) whole in omega (arith, more)
+  | inr short ↦
+      let size = short_size p f (suc k) at info known whole (omega arith) short in
+      let most = most_bytes p (page_number f (suc k)) at info known in
+      omega (arith, size, most, short)
+]
 
 pub none_left : (p : Pack) (f : Fid) (number at : ℕ) (info : PageInfo) (pages : List ℕ) → IsKnown p (page_number f number) at info → 1 ≤ number → (info.bytes ≢ 512) ⊎ (number ≡ 65535) → AreAfter p f number pages → pages ≡ []
 none_left p f number at info [] known first ends left = refl

@@ -5,6 +5,7 @@ use Rattle.std.proofs.lemmas.List.Elements.{All-cons, All-nil}
 use Rattle.alto_words.specs.declared.fid.Fid.{Fid}
 use Rattle.disk_records.proofs.FirstOnes.{first_front, first_then}
 use Rattle.disk_records.proofs.Growing.{added-twice, grown_twice, pack-after, writes-append}
+use Rattle.disk_records.specs.Frames.{IsFreeSector}
 use Rattle.disk_records.specs.Commands.{claim_writes, value_writes}
 use Rattle.disk_records.specs.Events.{IsFirstOf, writes_in}
 use Rattle.disk_records.specs.Packs.{after, is_free_at}
@@ -13,7 +14,7 @@ use Rattle.disk_records.specs.declared.records.Event.{Event}
 use Rattle.disk_records.specs.declared.records.Page.{Page}
 use Rattle.disk_records.specs.declared.records.Place.{Place}
 use Rattle.disk_records.specs.declared.records.Tally.{Tally}
-use Rattle.label_check.specs.Guarded.{DoneWhole, Guarded, IsFree}
+use Rattle.label_check.specs.Guarded.{DoneWhole, Guarded}
 use Rattle.label_check.specs.declared.errors.GuardError.TheVariants as guard
 use Rattle.label_check.specs.declared.errors.GuardError.{GuardError}
 use Rattle.pack_model.specs.operations.Commands.{Claim, first_page_claim, leader_claim}
@@ -47,7 +48,7 @@ module _ (a b : Taped) (bits : List Bool) (f : Fid) (name : List ℕ) (moment le
 
   -- the first claim failed
   pub make_unbegun : {t : Tally} (bits_now : List Bool) (error : GuardError) (place : Place) (held : ℕ) (wanted : Page) (e : FileError) → e ≡ error_at place held wanted error
-      → let claim = first_page_claim (pack a).shape f leader_at page_at in Guarded {T = Unit {0}} (IsFree page_at) page_at (value_writes page_at claim.value) (claim_writes page_at claim.label claim.value) 2 a b (Err error)
+      → let claim = first_page_claim (pack a).shape f leader_at page_at in Guarded {T = Unit {0}} (λ p. IsFreeSector p page_at) page_at (value_writes page_at claim.value) (claim_writes page_at claim.label claim.value) 2 a b (Err error)
       → Operates {T = Unit {0}} file.DiskFault file.Memory (make f name moment) (page_at ∷ leader_at ∷ []) (around a bits t) (around b bits_now t) (Err e)
   make_unbegun {t} bits_now error place held wanted e same guarded =
       let few = first_length (claim_writes page_at page.label page.value) (added a b) guarded.some in
@@ -63,7 +64,7 @@ module _ (a b : Taped) (bits : List Bool) (f : Fid) (name : List ℕ) (moment le
         out_of_memory = λ memory. let less = (guarded.want (memory_of error place held wanted e same memory)).less in omega (arith, less);
       })
 
-  module _ (c : Taped) (one : DiskAlone a b) (two : DiskAlone b c) (done : DoneWhole (IsFree page_at) (claim_writes page_at (first_page_claim (pack a).shape f leader_at page_at).label (first_page_claim (pack a).shape f leader_at page_at).value) 2 a b) where
+  module _ (c : Taped) (one : DiskAlone a b) (two : DiskAlone b c) (done : DoneWhole (λ p. IsFreeSector p page_at) (claim_writes page_at (first_page_claim (pack a).shape f leader_at page_at).label (first_page_claim (pack a).shape f leader_at page_at).value) 2 a b) where
     -- the leader's sector is free still
     pub leader_still_free : is_free_at (pack b) leader_at ≡ true
     leader_still_free =
@@ -118,7 +119,7 @@ module _ (a b : Taped) (bits : List Bool) (f : Fid) (name : List ℕ) (moment le
 
       -- the tally after a second claim that failed
       broken_counts : (t : Tally) (error : GuardError) (place : Place) (held : ℕ) (wanted : Page) (e : FileError) → e ≡ error_at place held wanted error
-          → Guarded {T = Unit {0}} (IsFree leader_at) leader_at (value_writes leader_at leader.value) (claim_writes leader_at leader.label leader.value) 2 b c (Err error)
+          → Guarded {T = Unit {0}} (λ p. IsFreeSector p leader_at) leader_at (value_writes leader_at leader.value) (claim_writes leader_at leader.label leader.value) 2 b c (Err error)
           → (IsErrOf {T = Unit {0}} (Err e) file.DiskFault → c.writes < 2 ^ 64 - 1)
           → counted_after b.writes 2 c.writes (Err error) t ≡ counted a.writes (take (length (added a c)) (make_moves (make f name moment))) t
       broken_counts t (guard.Wrong found) place held wanted e same guarded tells =
@@ -134,7 +135,7 @@ module _ (a b : Taped) (bits : List Bool) (f : Fid) (name : List ℕ) (moment le
 
       -- the second claim failed
       pub make_broken : {t u : Tally} (bits_now : List Bool) (error : GuardError) (place : Place) (held : ℕ) (wanted : Page) (e : FileError) → e ≡ error_at place held wanted error
-          → let claim = leader_claim (pack a).shape f name moment leader_at page_at in Guarded {T = Unit {0}} (IsFree leader_at) leader_at (value_writes leader_at claim.value) (claim_writes leader_at claim.label claim.value) 2 b c (Err error)
+          → let claim = leader_claim (pack a).shape f name moment leader_at page_at in Guarded {T = Unit {0}} (λ p. IsFreeSector p leader_at) leader_at (value_writes leader_at claim.value) (claim_writes leader_at claim.label claim.value) 2 b c (Err error)
           → u ≡ counted_after b.writes 2 c.writes (Err error) t
           → Operates {T = Unit {0}} file.DiskFault file.Memory (make f name moment) (page_at ∷ leader_at ∷ []) (around a bits t) (around c bits_now u) (Err e)
       make_broken {t} {u} bits_now error place held wanted e same guarded counts =
@@ -153,7 +154,7 @@ module _ (a b : Taped) (bits : List Bool) (f : Fid) (name : List ℕ) (moment le
           })
 
       -- both were done
-      pub make_done : {t u : Tally} (bits_now : List Bool) → let claim = leader_claim (pack a).shape f name moment leader_at page_at in Guarded {T = Unit {0}} (IsFree leader_at) leader_at (value_writes leader_at claim.value) (claim_writes leader_at claim.label claim.value) 2 b c (Ok tt)
+      pub make_done : {t u : Tally} (bits_now : List Bool) → let claim = leader_claim (pack a).shape f name moment leader_at page_at in Guarded {T = Unit {0}} (λ p. IsFreeSector p leader_at) leader_at (value_writes leader_at claim.value) (claim_writes leader_at claim.label claim.value) 2 b c (Ok tt)
           → bits_now ≡ marked true (page_at ∷ leader_at ∷ []) bits → u ≡ counted_after b.writes 2 c.writes (Ok tt) t → t.limit < 2 ^ 64
           → Operates {T = Unit {0}} file.DiskFault file.Memory (make f name moment) (page_at ∷ leader_at ∷ []) (around a bits t) (around c bits_now u) (Ok tt)
       make_done {t} {u} bits_now guarded table counts limit =

@@ -1,5 +1,5 @@
 -- What a caller of a cut sees.
-use Rattle.std.specs.Prelude.{IsErrOf, List, OnOk, Result, Some, false, ℕ, ◌%◌, ◌≡◌}
+use Rattle.std.specs.Prelude.{IsErrOf, List, OnOk, Result, Some, false, ℕ, ◌%◌, ◌-◌, ◌≡◌}
 use Rattle.alto_words.specs.declared.fid.Fid.{Fid}
 use Rattle.disk_records.specs.Commands.{relabel_writes}
 use Rattle.disk_records.specs.Packs.{Pack, carried, sector_at}
@@ -8,7 +8,7 @@ use Rattle.disk_records.specs.declared.records.Sector.{Sector}
 use Rattle.label_check.specs.declared.errors.PageInfo.{PageInfo}
 use Rattle.laws_call.specs.Acting.{Around, IsQuiet}
 use Rattle.laws_hint.specs.MapChanges.{marked}
-use Rattle.page_seeking.specs.Seeking.{Seen, Stands, page_number}
+use Rattle.page_seeking.specs.Seeking.{Seen, Stands, file_length, page_number}
 use Rattle.page_seeking.specs.declared.refs.FileError.TheVariants.{Memory}
 use Rattle.page_seeking.specs.declared.refs.FileError.{FileError}
 use Rattle.pack_model.specs.hints.Links.{no_link}
@@ -20,6 +20,10 @@ use Rattle.file_pages.specs.Releasing.{CommitsAndReleases}
 
 abbrev pub to_cut : Fid → ℕ → Operation
 to_cut f n = cut f n
+
+-- how many pages come after the one in which so many bytes end
+abbrev pub later_pages : Pack → Fid → ℕ → ℕ
+later_pages p f n = page_of_byte (file_length p f) - page_of_byte n
 
 -- The page is in the buffer, from its sector, and these are its label's words.
 pub record IsRead (p : Pack) (page : Page) (at : ℕ) (info : PageInfo) (buffer : Sector) : Type 0 where

@@ -7,7 +7,7 @@ ghost use Rattle.disk_records.specs.Commands.{claim_writes, value_writes};
 ghost use Rattle.disk_records.specs.Frames.{IsFreeSector, WritesIn};
 ghost use Rattle.disk_records.specs.Tapes.{DiskAlone, added, pack};
 ghost use Rattle.label_check.specs.Causes.{cause_of_guard};
-ghost use Rattle.label_check.specs.Guarded.{Guarded, IsFree};
+ghost use Rattle.label_check.specs.Guarded.{Guarded};
 ghost use Rattle.page_seeking.specs.Causes.{cause_of_length};
 ghost use Rattle.page_seeking.specs.Refs.{IfMisled};
 ghost use Rattle.page_seeking.specs.Seeking.{page_number};
@@ -85,7 +85,7 @@ fn claim_page<D: Disk>(
     requires previous { previous < pages_of (D.tape disk.old).form }
     requires sector { IsSector (D.tape disk.old).form at }
     requires later { All (IsSector (D.tape disk.old).form) later.now }
-    ensures guarded { IsTrue D.told → FitsNext bytes.now past.now later.now → Guarded (IsFree at) at (value_writes at (next_claim (D.tape disk.old).form (page_number fid number) previous bytes.now past.now at later.now).value) (claim_writes at (next_claim (D.tape disk.old).form (page_number fid number) previous bytes.now past.now at later.now).label (next_claim (D.tape disk.old).form (page_number fid number) previous bytes.now past.now at later.now).value) 2 (D.tape disk.old) (D.tape disk.new) result }
+    ensures guarded { IsTrue D.told → FitsNext bytes.now past.now later.now → Guarded (λ p. IsFreeSector p at) at (value_writes at (next_claim (D.tape disk.old).form (page_number fid number) previous bytes.now past.now at later.now).value) (claim_writes at (next_claim (D.tape disk.old).form (page_number fid number) previous bytes.now past.now at later.now).label (next_claim (D.tape disk.old).form (page_number fid number) previous bytes.now past.now at later.now).value) 2 (D.tape disk.old) (D.tape disk.new) result }
     ensures frame { IsTrue D.told → WritesIn (IsFreeSector (pack (D.tape disk.old))) (added (D.tape disk.old) (D.tape disk.new)) }
     ensures was_free { IsTrue D.told → OnOk result (IsFreeSector (pack (D.tape disk.old)) at) }
     ensures cause { HasCause cause_of_guard (D.tape disk.old) (D.tape disk.new) result }

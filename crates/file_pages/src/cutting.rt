@@ -1,5 +1,5 @@
 // A file that is cut: a prefix of its bytes is kept.
-ghost use Rattle.std.specs.Prelude.{◌≡◌, ◌≢◌, ◌<◌, ◌≤◌, ◌/◌, ℕ, List, [], false, Some, IfNone, IfSome, IsErrOf, IsTrue, OnOk, length as list_length};
+ghost use Rattle.std.specs.Prelude.{◌≡◌, ◌≢◌, ◌+◌, ◌*◌, ◌<◌, ◌≤◌, ◌/◌, ℕ, List, [], false, Some, IfNone, IfSome, IsErrOf, IsTrue, OnOk, length as list_length};
 ghost use Rattle.disk_records.specs.Addresses.{pages_of};
 ghost use Rattle.disk_records.specs.Causes.{HasCause};
 ghost use Rattle.disk_records.specs.Frames.{IsPageOf, WritesIn};
@@ -18,10 +18,10 @@ ghost use Rattle.pack_model.specs.states.Whole.{Whole};
 ghost use Rattle.page_seeking.specs.Causes.{cause_of_file, cause_of_length};
 ghost use Rattle.page_seeking.specs.Parts.{IsPast, ListsNext};
 ghost use Rattle.page_seeking.specs.Refs.{FileStands, IfBeyond, IfMisled, IsOwnHint, MisledBy};
-ghost use Rattle.page_seeking.specs.Seeking.{file_length, length_at};
+ghost use Rattle.page_seeking.specs.Seeking.{Quick, file_length, length_at, page_number};
 ghost use Rattle.page_seeking.specs.declared.refs.FileError.TheVariants as error;
 ghost use Rattle.file_pages.specs.Calls.{IsHintOrFound, IsLinkOrFound, WasHeld};
-ghost use Rattle.file_pages.specs.Cutting.{Cuts, IsRead, to_cut};
+ghost use Rattle.file_pages.specs.Cutting.{Cuts, IsRead, later_pages, to_cut};
 ghost use Rattle.file_pages.specs.Releasing.{AreAfter, CommitsAndReleases, CommitsFirst, Forgotten, KeepsEachHandy, KeepsOrFrees, ListsNoneGone, MisledSince, OnlyGo};
 ghost use Rattle.file_pages.specs.Values.{LeavesHandy};
 
@@ -84,6 +84,7 @@ fn shorten<D: Disk>(
     ensures frame { IsTrue D.told → WritesIn (IsPageOf page.fid (pack (D.tape disk.old))) (added (D.tape disk.old) (D.tape disk.new)) }
     ensures cause { HasCause cause_of_length (D.tape disk.old) (D.tape disk.new) result }
     ensures alone { DiskAlone (D.tape disk.old) (D.tape disk.new) }
+    ensures runs { IsTrue D.told → (D.tape disk.new).runs ≤ (D.tape disk.old).runs + 2 }
 {
     let before = disk.writes();
     let written = relabel(disk, at, page, label);
@@ -126,6 +127,7 @@ fn end_in_page<D: Disk>(
     ensures forgotten { (p : Pack) → IsTrue D.told → pack (D.tape disk.old) ≡ p → IsRead p page at info buf.old → Whole p → file_length p page.fid / 512 < 65535 → OnOk result (Forgotten hints.new.cache page.fid page.number (page_of_byte (file_length p page.fid))) }
     ensures here { address_in hints.new.cache.entries page ≡ address_in hints.old.cache.entries page }
     ensures gone { (p : Pack) → IsTrue D.told → pack (D.tape disk.old) ≡ p → IsRead p page at info buf.old → ListsNoneGone p (pack (D.tape disk.new)) hints.new.cache }
+    ensures runs { (p : Pack) → IsTrue D.told → pack (D.tape disk.old) ≡ p → IsRead p page at info buf.old → Whole p → (D.tape disk.new).runs + 3 * page.number ≤ (D.tape disk.old).runs + (3 * page_of_byte (file_length p page.fid) + 2) }
 {
     let label = last_label(&buf.label, bytes);
     match shorten(disk, tally, at, page, label) {
@@ -136,7 +138,7 @@ fn end_in_page<D: Disk>(
 
 /// Cuts an ordinary file to its first `length` bytes. The page in which they end is located, and gets a label that counts fewer bytes and
 /// has no next link, which commits; then each later page is released, rising, found by the next link of the page before it. Of the page
-/// that becomes the last two record writes, of each later one two. A cut to the file's own length writes nothing. The sectors of later
+/// that becomes the last two record writes, of each later one two, by three sector commands. A cut to the file's own length writes nothing. The sectors of later
 /// pages are free in the table then, and the cache has forgotten these pages; after an error it has forgotten those that went. The cache
 /// lists the page in which the file ends then. On any pack, and whatever the answer is, each record write is in a page of the file, and each
 /// bit of the table is as it was, or free as its sector is. `buf` is used, and what it holds then is open.
@@ -174,6 +176,12 @@ pub fn cut<D: Disk>(
     ensures gone { IsTrue D.told → ListsNoneGone (pack (D.tape disk.old)) (pack (D.tape disk.new)) hints.new.cache }
     ensures listed { OnOk result (ListsNext D.told (pack (D.tape disk.old)) file.now.fid length hints.old.cache hints.new.cache) }
     ensures handy { IsTrue D.told → FileStands (pack (D.tape disk.old)) file.now → OnOk result (LeavesHandy (pack (D.tape disk.old)) (pack (D.tape disk.new)) hints.old.cache hints.new.cache) }
+
+    // Sector commands: three for each page that goes, two for the one that becomes the last, and those that find it. With any hints the
+    // latter are 53 more than its number at most; one, if the cache has its sector; with true links and handy hints one more than its number.
+    ensures runs { IsTrue D.told → Whole (pack (D.tape disk.old)) → (D.tape disk.new).runs ≤ (D.tape disk.old).runs + (page_of_byte length + (3 * later_pages (pack (D.tape disk.old)) file.now.fid length + 55)) }
+    ensures soon { (at : ℕ) → IsTrue D.told → Whole (pack (D.tape disk.old)) → address_in hints.old.cache.entries (page_number file.now.fid (page_of_byte length)) ≡ Some at → carried (pack (D.tape disk.old)) at ≡ Some (page_number file.now.fid (page_of_byte length)) → OnOk result ((D.tape disk.new).runs ≤ (D.tape disk.old).runs + (3 * later_pages (pack (D.tape disk.old)) file.now.fid length + 3)) }
+    ensures quick { IsTrue D.told → Quick (pack (D.tape disk.old)) file.now.fid hints.old.cache → OnOk result ((D.tape disk.new).runs ≤ (D.tape disk.old).runs + (page_of_byte length + (3 * later_pages (pack (D.tape disk.old)) file.now.fid length + 3))) }
 {
     let Some(number) = last_page_of(length) else {
         return match page_seeking::length(disk, hints, file, buf) {

@@ -1,5 +1,5 @@
 // A file that goes: all of its sectors are released.
-ghost use Rattle.std.specs.Prelude.{None, ◌≡◌, ◌<◌, ◌/◌, ◌≤◌, ◌∷◌, ℕ, List, Some, false, IsTrue, OnOk, length};
+ghost use Rattle.std.specs.Prelude.{None, ◌≡◌, ◌+◌, ◌*◌, ◌<◌, ◌/◌, ◌≤◌, ◌∷◌, ℕ, List, Some, false, IsTrue, OnOk, length};
 ghost use Rattle.disk_records.specs.Addresses.{pages_of};
 ghost use Rattle.disk_records.specs.Causes.{HasCause};
 ghost use Rattle.disk_records.specs.Frames.{IsFreeSector, IsPageOf, WritesIn};
@@ -14,7 +14,7 @@ ghost use Rattle.pack_model.specs.operations.Committing.{page_of_byte};
 ghost use Rattle.pack_model.specs.states.Whole.{Whole};
 ghost use Rattle.page_seeking.specs.Causes.{cause_of_length};
 ghost use Rattle.page_seeking.specs.Refs.{FileStands, IfMisled, IsOwnHint, MisledBy};
-ghost use Rattle.page_seeking.specs.Seeking.{file_length, page_number};
+ghost use Rattle.page_seeking.specs.Seeking.{QuickCache, file_length, page_number};
 ghost use Rattle.page_seeking.specs.declared.refs.FileError.TheVariants as error;
 ghost use Rattle.file_pages.specs.Calls.{IsHintOrFound, IsLinkOrFound, WasHeld};
 ghost use Rattle.file_pages.specs.Cutting.{IsRead};
@@ -48,6 +48,7 @@ fn release_leader<D: Disk>(
     ensures frame { IsTrue D.told → WritesIn (IsPageOf leader.fid (pack (D.tape disk.old))) (added (D.tape disk.old) (D.tape disk.new)) }
     ensures cause { HasCause cause_of_length (D.tape disk.old) (D.tape disk.new) result }
     ensures alone { DiskAlone (D.tape disk.old) (D.tape disk.new) }
+    ensures runs { IsTrue D.told → (D.tape disk.new).runs ≤ (D.tape disk.old).runs + 2 }
 {
     let before = disk.writes();
     let released = release(disk, at, leader);
@@ -87,6 +88,7 @@ fn drop_pages<D: Disk>(
     ensures forgotten { (p : Pack) → IsTrue D.told → pack (D.tape disk.old) ≡ p → IsRead p (page_number fid 0) at info buf.old → Whole p → file_length p fid / 512 < 65535 → OnOk result (Forgotten hints.new.cache fid 0 (page_of_byte (file_length p fid))) }
     ensures leader { OnOk result (address_in hints.new.cache.entries (page_number fid 0) ≡ None) }
     ensures gone { (p : Pack) → IsTrue D.told → pack (D.tape disk.old) ≡ p → IsRead p (page_number fid 0) at info buf.old → ListsNoneGone p (pack (D.tape disk.new)) hints.new.cache }
+    ensures runs { (p : Pack) → IsTrue D.told → pack (D.tape disk.old) ≡ p → IsRead p (page_number fid 0) at info buf.old → Whole p → (D.tape disk.new).runs ≤ (D.tape disk.old).runs + (3 * page_of_byte (file_length p fid) + 2) }
 {
     let leader = Page { fid, number: 0 };
     forget_page(&mut hints.cache, leader);
@@ -101,7 +103,7 @@ fn drop_pages<D: Disk>(
 
 /// Releases all sectors of a file that has no entries of its own and isn't a system file: its leader, whose label commits, and then its
 /// data pages, rising, each found by the next link of the page before it. It is the drop of the file except for the slot of its entry,
-/// which the directory frees next. Two record writes of each page. The sectors are free in the table then, and the cache has forgotten the
+/// which the directory frees next. Two record writes of each page, by three sector commands. The sectors are free in the table then, and the cache has forgotten the
 /// pages; after an error it has forgotten those that went. On any pack, and whatever the answer is, each record write is in a page of the
 /// file, and each bit of the table is as it was, or free as its sector is. `buf` is used, and what it holds then is open.
 ///
@@ -134,6 +136,12 @@ pub fn drop_file<D: Disk>(
     ensures leader { OnOk result (address_in hints.new.cache.entries (page_number file.now.fid 0) ≡ None) }
     ensures gone { IsTrue D.told → ListsNoneGone (pack (D.tape disk.old)) (pack (D.tape disk.new)) hints.new.cache }
     ensures handy { IsTrue D.told → FileStands (pack (D.tape disk.old)) file.now → OnOk result (LeavesHandy (pack (D.tape disk.old)) (pack (D.tape disk.new)) hints.old.cache hints.new.cache) }
+
+    // Sector commands: three for each data page, two for the leader, and those that find it: 53 at most with any hints; one, if the cache
+    // has its sector, or with true links and a handy cache.
+    ensures runs { IsTrue D.told → Whole (pack (D.tape disk.old)) → (D.tape disk.new).runs ≤ (D.tape disk.old).runs + (3 * page_of_byte (file_length (pack (D.tape disk.old)) file.now.fid) + 55) }
+    ensures soon { (at : ℕ) → IsTrue D.told → Whole (pack (D.tape disk.old)) → address_in hints.old.cache.entries (page_number file.now.fid 0) ≡ Some at → carried (pack (D.tape disk.old)) at ≡ Some (page_number file.now.fid 0) → (D.tape disk.new).runs ≤ (D.tape disk.old).runs + (3 * page_of_byte (file_length (pack (D.tape disk.old)) file.now.fid) + 3) }
+    ensures quick { IsTrue D.told → QuickCache (pack (D.tape disk.old)) file.now.fid hints.old.cache → OnOk result ((D.tape disk.new).runs ≤ (D.tape disk.old).runs + (3 * page_of_byte (file_length (pack (D.tape disk.old)) file.now.fid) + 3)) }
 {
     match locate(disk, hints, file, 0, buf) {
         Ok((at, info)) => drop_pages(disk, hints, tally, file.fid, at, info, buf),

@@ -8,7 +8,7 @@ ghost use Rattle.disk_records.specs.Tapes.{DiskAlone, added, pack};
 ghost use Rattle.laws_call.specs.Acting.{IsQuiet, Operates, around};
 ghost use Rattle.page_seeking.specs.Causes.{cause_of_length};
 ghost use Rattle.page_seeking.specs.Refs.{FileStands, IfMisled, MisledBy};
-ghost use Rattle.page_seeking.specs.Seeking.{IsLast, LastNamed, NamedNearEnd, Quick, Seen, Stands, file_length, page_number};
+ghost use Rattle.page_seeking.specs.Seeking.{EndListed, IsLast, LastNamed, NamedNearEnd, Quick, QuickCache, Refused, Seen, Stands, file_length, page_number};
 ghost use Rattle.page_seeking.specs.declared.refs.FileError.TheVariants as error;
 ghost use Rattle.pack_model.specs.hints.Links.{LinksTrue};
 ghost use Rattle.pack_model.specs.operations.Committing.{page_of_byte};
@@ -114,10 +114,11 @@ fn grow_pages<D: Disk>(
 /// value, its label, which commits, and its value again. `past` are words after the last byte that don't count; they have to fit in the
 /// page that is the last then. The sectors have to be free ones, each of them once, and as many as pages come. The last page is located
 /// first; what `buf` holds afterwards is open. With m pages that come there are 3m + 3 record writes, and with true links, handy hints and
-/// a leader that names the last page at most 2m + 6 sector commands. The sectors of the pages that come are busy in the table then; the
-/// cache lists the last 48 of these pages, and the last page if none comes, unless a note was refused. On any pack, and whatever the answer
-/// is, each record write is in a sector that was free or in the page that was the last; so a sector of `fresh` that isn't free stays, unless
-/// it carries that page, and the answer isn't Ok then.
+/// a leader that names the last page at most 2m + 6 sector commands. With true links and a handy cache there are at most 2m + 7, whatever
+/// the leader names, if the highest page that the cache lists is the last; so it is again after the growth. The sectors of the pages that
+/// come are busy in the table then; the cache lists the last 48 of these pages, and the last page if none comes, unless a note was refused.
+/// On any pack, and whatever the answer is, each record write is in a sector that was free or in a page that ends the file; so a sector of
+/// `fresh` that isn't free stays, unless it carries such a page, and the answer isn't Ok then.
 ///
 /// Misled: the address that the file is named with or a next link of it misleads. Of what isn't as asked, or where the machine isn't
 /// modelled, it also comes of an address of `fresh` that is no usable sector's or whose sector isn't free, and of the sector in which this
@@ -146,6 +147,7 @@ pub fn grow<D: Disk>(
     ensures cause { HasCause cause_of_length (D.tape disk.old) (D.tape disk.new) result }
     ensures alone { DiskAlone (D.tape disk.old) (D.tape disk.new) }
     ensures quick { (o : Operation) → IsTrue D.told → FileStands (pack (D.tape disk.old)) file.now → MayBeGrown (pack (D.tape disk.old)) o file.now.fid bytes.now past.now fresh.now → Quick (pack (D.tape disk.old)) file.now.fid hints.old.cache → LastNamed (pack (D.tape disk.old)) file.now.fid → OnOk result ((D.tape disk.new).runs ≤ (D.tape disk.old).runs + (2 * length fresh.now + 6)) }
+    ensures near { (o : Operation) → IsTrue D.told → FileStands (pack (D.tape disk.old)) file.now → MayBeGrown (pack (D.tape disk.old)) o file.now.fid bytes.now past.now fresh.now → QuickCache (pack (D.tape disk.old)) file.now.fid hints.old.cache → EndListed (pack (D.tape disk.old)) file.now.fid hints.old.cache → OnOk result ((D.tape disk.new).runs ≤ (D.tape disk.old).runs + (2 * length fresh.now + 7)) }
 
     // Where it writes, on every modelled pack; a sector that was given as free and isn't stays, unless it carries such a page.
     ensures frame { IsTrue D.told → WritesIn (IsEndOrFree file.now.fid (pack (D.tape disk.old))) (added (D.tape disk.old) (D.tape disk.new)) }
@@ -157,6 +159,7 @@ pub fn grow<D: Disk>(
     ensures sized { length hints.new.table ≡ length hints.old.table }
     ensures refused { hints.old.cache.refused ≤ hints.new.cache.refused }
     ensures listed { OnOk result (ListsGrown D.told (pack (D.tape disk.old)) file.now.fid fresh.now hints.old.cache hints.new.cache) }
+    ensures highest { (o : Operation) → IsTrue D.told → FileStands (pack (D.tape disk.old)) file.now → MayBeGrown (pack (D.tape disk.old)) o file.now.fid bytes.now past.now fresh.now → OnOk result (page_of_byte (file_length (pack (D.tape disk.new)) file.now.fid) < 65535 → EndListed (pack (D.tape disk.new)) file.now.fid hints.new.cache ⊎ Refused hints.old.cache hints.new.cache) }
     ensures handy { (o : Operation) → IsTrue D.told → FileStands (pack (D.tape disk.old)) file.now → MayBeGrown (pack (D.tape disk.old)) o file.now.fid bytes.now past.now fresh.now → OnOk result (StaysHandy (pack (D.tape disk.old)) (pack (D.tape disk.new)) hints.old.cache hints.new.cache) }
 {
     let last = match last_page(disk, hints, file, buf) {

@@ -44,7 +44,7 @@ fn put_name(value: &mut [u16; 256], name: &Name)
 }
 
 /// Gives the leader of an ordinary file another name, by one value write. Its leader page is located first; what `buf` holds afterwards is
-/// open.
+/// open. On any pack, and whatever the answer is, the record write is in a page of the file.
 ///
 /// Misled: the address that the file is named with misleads; where the machine isn't modelled also the sector in which this call found the
 /// leader, if it no longer carries it. DiskFault: the device failed. Memory: no memory was left for the record write. After each of these
@@ -108,8 +108,9 @@ fn put_stamp(value: &mut [u16; 256], moment: u32, last: LastPage)
 /// Gives the leader of an ordinary file another written date, in seconds since the start of 1901, and the address, the number and the bytes
 /// of its last page, by one value write. Its leader and its last page are located first: the page that the leader names is looked at, and
 /// where it is full, the highest one that the cache lists; from there the next links are followed. The last page is listed then, unless a
-/// note was refused, and what `buf` holds is open. With true links, a handy cache and a leader that names a data page it takes at most 6
-/// sector commands, and one more for each page after that one; with handy hints and a leader that names the last page at most 4.
+/// note was refused, and what `buf` holds is open. On any pack, and whatever the answer is, the record write is in a page of the file. With
+/// true links, a handy cache and a leader that names a data page it takes at most 6 sector commands, and one more for each page after that
+/// one; with handy hints and a leader that names the last page at most 4.
 ///
 /// Misled: a hint of the file misleads, as `locate` says; where the machine isn't modelled also the sector in which this call found a page
 /// of the file, if it no longer carries it. DiskFault: the device failed. Memory: no memory was left for the record write. After each of

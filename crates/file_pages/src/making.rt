@@ -112,7 +112,8 @@ pub(crate) fn at_held(at: u16, wanted: Page) -> FileError
 /// second of the two sectors `fresh`, given by their virtual addresses, and then the leader in the first, whose label commits. Page 1 has
 /// no bytes, or of a directory one free slot of 255 words. At most four sector commands, and six record writes. The full name has to be one
 /// that can be given, of no living file, with the last serial given out; the sectors have to be two free ones. Both pages are listed then,
-/// unless a note was refused, and their sectors busy in the table.
+/// unless a note was refused, and their sectors busy in the table. On any pack, and whatever the answer is, each record write is in a sector
+/// that was free; so one of `fresh` that isn't free stays, and the answer isn't Ok then.
 ///
 /// Misled: an address of `fresh` is no usable sector's, or its sector isn't free: where the machine is modelled, this comes of no such
 /// sectors as are asked for. The page that is wanted is the new file's that was to be there. DiskFault: the device failed. Memory: no memory

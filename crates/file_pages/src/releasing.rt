@@ -1,5 +1,5 @@
 // Pages of a file that are released: all after one whose label was read, found one by one by the next links.
-ghost use Rattle.std.specs.Prelude.{None, ◌/◌, ◌≡◌, ◌≢◌, ◌⊎◌, ◌+◌, ◌<◌, ◌≤◌, ℕ, List, set, true, false, IfOk, IsErrOf, IsTrue, OnErr, OnOk, length};
+ghost use Rattle.std.specs.Prelude.{None, ◌/◌, ◌≡◌, ◌≢◌, ◌⊎◌, ◌+◌, ◌*◌, ◌<◌, ◌≤◌, ℕ, List, set, true, false, IfOk, IsErrOf, IsTrue, OnErr, OnOk, length};
 ghost use Rattle.disk_records.specs.Addresses.{pages_of};
 ghost use Rattle.disk_records.specs.Causes.{HasCause};
 ghost use Rattle.disk_records.specs.Frames.{IsPageOf, WritesIn};
@@ -100,6 +100,7 @@ fn release_after<D: Disk>(
     ensures want { IsTrue D.told → IsErrOf result error.Memory → (D.tape disk.old).spare < 2 }
     ensures cause { HasCause cause_of_length (D.tape disk.old) (D.tape disk.new) result }
     ensures alone { DiskAlone (D.tape disk.old) (D.tape disk.new) }
+    ensures runs { IsTrue D.told → (D.tape disk.new).runs ≤ (D.tape disk.old).runs + 3 }
     ensures frame { IsTrue D.told → WritesIn (IsPageOf page.fid (pack (D.tape disk.old))) (added (D.tape disk.old) (D.tape disk.new)) }
     ensures bits { IsTrue D.told → KeepsOrFrees (pack (D.tape disk.new)) hints.old.table hints.new.table }
     ensures sized { length hints.new.table ≡ length hints.old.table }
@@ -147,6 +148,7 @@ pub(crate) fn release_rest<D: Disk>(
     ensures link { IfMisled result (λ place at wanted found. IsOwnLink fid place wanted) }
     ensures cause { HasCause cause_of_length (D.tape disk.old) (D.tape disk.new) result }
     ensures alone { DiskAlone (D.tape disk.old) (D.tape disk.new) }
+    ensures runs { (p : Pack) → IsTrue D.told → Follows p (pack (D.tape disk.old)) (page_number fid number) at info → Whole p → (D.tape disk.new).runs + 3 * number ≤ (D.tape disk.old).runs + 3 * page_of_byte (file_length p fid) }
     ensures frame { IsTrue D.told → WritesIn (IsPageOf fid (pack (D.tape disk.old))) (added (D.tape disk.old) (D.tape disk.new)) }
     ensures bits { IsTrue D.told → KeepsOrFrees (pack (D.tape disk.new)) hints.old.table hints.new.table }
     ensures sized { length hints.new.table ≡ length hints.old.table }

@@ -7,7 +7,7 @@ use Rattle.std.specs.Prelude.{nat_lt}
 use Rattle.zones.specs.world_model.specs.Zones.{Block, gap, live, block_size, left_before, shrunk, used_above}
 use Rattle.zones.specs.world_model.specs.ZoneWords.{IsMemory, block_words, is_gap_tag, memory_length, tag_size, zone_in, zone_start, zone_words}
 use Rattle.zones.specs.laws_zone.specs.Filling.{AreJoined, EachCanStand, FillZone, IsTop, zone_size}
-use Rattle.zones.specs.laws_zone.specs.PlaceLaws.{CutAt, NowHas}
+use Rattle.zones.specs.laws_zone.specs.PlaceLaws.{EndsInGap, NowHas}
 use Rattle.zones.specs.laws_zone.specs.WalkLaws.{is_gap}
 use Rattle.zones.specs.laws_zone.proofs.Cutting.{joined_rest, used_more, used_past, zeros_past}
 use Rattle.zones.specs.laws_zone.proofs.Rows.{each_last, size_of_both}
@@ -64,7 +64,7 @@ past_gap top low memory here before n after t h zone place none past more =
 
 -- of a free one that ends it
 cut_gap : (top low : ℕ) (memory : List ℕ) (here : ℕ) (before : List Block) (n : ℕ) (after : List Block) → IsTop top → IsMemory top memory → zone_in top memory ≡ before ++ gap n ∷ after → here ≡ zone_start + zone_size before
-    → NonePast low before → here ≤ low → low < here + n → top ≤ here + n → CutAt top low memory here × (used_above low zone_start (zone_in top memory) ≡ None)
+    → NonePast low before → here ≤ low → low < here + n → top ≤ here + n → EndsInGap top low memory here × (used_above low zone_start (zone_in top memory) ≡ None)
 cut_gap top low memory here before n after t h zone place none first past last =
     (record { before = before; n = n; zone = whole; place = place; first = first; past = past }, ap (used_above low zone_start) whole ∙ used_past low zone_start before (gap n ∷ []) none)
   where
@@ -106,7 +106,7 @@ some_left : (k : ℕ) → 1 ≤ k → left_before k [] ≡ gap k ∷ []
 some_left zero some = absurd (omega (arith, some))
 some_left (suc k) some = refl
 
-cut_part : (top low from : ℕ) (old new : List ℕ) → IsTop top → IsTop low → low < top → IsMemory top old → CutAt top low old from → used_above low zone_start (zone_in top old) ≡ None → from < low
+cut_part : (top low from : ℕ) (old new : List ℕ) → IsTop top → IsTop low → low < top → IsMemory top old → EndsInGap top low old from → used_above low zone_start (zone_in top old) ≡ None → from < low
     → new ≡ (take from old ++ block_words (gap (low - from))) ++ drop low old → NowHas low old new (shrunk (low - zone_start) (zone_in top old))
 cut_part top low from old new t u less h c none before is =
     zones_shrink top low from old new t u (omega (arith, less)) h c none
@@ -115,7 +115,7 @@ cut_part top low from old new t u less h c none before is =
     ∙ (λ i. take from old ++ (sym (append-nil (block_words (gap (low - from)))) i ++ zeros_past top low from low old t h c before i))
     ∙ ap (λ (z : List Block). take from old ++ (zone_words z ++ replicate (memory_length - low) 0)) (sym (some_left (low - from) (omega (arith, before)))))
 
-cut_whole : (top low from : ℕ) (old : List ℕ) → IsTop top → IsTop low → low < top → IsMemory top old → CutAt top low old from → used_above low zone_start (zone_in top old) ≡ None → low ≤ from
+cut_whole : (top low from : ℕ) (old : List ℕ) → IsTop top → IsTop low → low < top → IsMemory top old → EndsInGap top low old from → used_above low zone_start (zone_in top old) ≡ None → low ≤ from
     → NowHas low old (set old from 0) (shrunk (low - zone_start) (zone_in top old))
 cut_whole top low from old t u less h c none after =
     zones_shrink top low from old (set old from 0) t u (omega (arith, less)) h c none words
@@ -156,7 +156,7 @@ cut_whole top low from old t u less h c none after =
         ∙ ap (λ n. take from old ++ replicate n 0) (sym up)
         ∙ ap (λ k. take from old ++ (zone_words (left_before k []) ++ replicate (memory_length - low) 0)) (sym none_left)
 
-pub cut_makes : (top low from : ℕ) (old new : List ℕ) → IsTop top → IsTop low → low < top → IsMemory top old → CutAt top low old from → used_above low zone_start (zone_in top old) ≡ None → new ≡ after_cut from low old
+pub cut_makes : (top low from : ℕ) (old new : List ℕ) → IsTop top → IsTop low → low < top → IsMemory top old → EndsInGap top low old from → used_above low zone_start (zone_in top old) ≡ None → new ≡ after_cut from low old
     → NowHas low old new (shrunk (low - zone_start) (zone_in top old))
 cut_makes top low from old new t u less h c none is = by (nat_lt from low) refl is
   where

@@ -2,11 +2,11 @@
 use Rattle.std.specs.Prelude.{◌≡◌, ℕ, ◌+◌, ◌-◌, Bool, cond, nat_lt, List, ◌++◌, Some, None, Result, Ok, Err, drop, set, take}
 use Rattle.zones.specs.world_model.specs.Zones.{gap, used_above}
 use Rattle.zones.specs.world_model.specs.ZoneWords.{block_words, zone_in, zone_start}
-use Rattle.zones.specs.laws_zone.specs.PlaceLaws.{CutAt}
+use Rattle.zones.specs.laws_zone.specs.PlaceLaws.{EndsInGap}
 
 -- the last block is cut there, and no used block has that word or one after it; or the lowest one that has is this
 abbrev pub FindsCut : ℕ → ℕ → List ℕ → Result ℕ ℕ → Type 0
-FindsCut top low memory (Ok from) = CutAt top low memory from × (used_above low zone_start (zone_in top memory) ≡ None)
+FindsCut top low memory (Ok from) = EndsInGap top low memory from × (used_above low zone_start (zone_in top memory) ≡ None)
 FindsCut top low memory (Err at) = used_above low zone_start (zone_in top memory) ≡ Some at
 
 -- what a block that has the word is to the cut

@@ -3,11 +3,11 @@ use Rattle.std.proofs.Common.{◌≡◌, ◌≢◌, ℕ, Bool, IsTrue, List, [],
 use Rattle.disk_records.specs.declared.records.Event.{Event}
 use Rattle.disk_records.specs.declared.records.Page.{Page}
 use Rattle.disk_records.specs.Commands.{claim_writes, relabel_writes, release_writes, value_writes}
-use Rattle.disk_records.specs.Frames.{IsUsableSector, WritesIn, WritesUsable}
+use Rattle.disk_records.specs.Frames.{IsFreeSector, IsUsableSector, WritesIn, WritesUsable}
 use Rattle.disk_records.specs.Packs.{Pack}
 use Rattle.disk_records.specs.Tapes.{Taped, added, pack}
 use Rattle.disk_records.proofs.Framing.{carried_usable, free_usable, writes_some}
-use Rattle.label_check.specs.Guarded.{Carries, Guarded, IsFree}
+use Rattle.label_check.specs.Guarded.{Carries, Guarded}
 use Rattle.label_check.specs.declared.errors.GuardError.{GuardError}
 
 -- some of these record writes were made, and any only where the guard held
@@ -45,5 +45,5 @@ module _ {told : Bool} {at count : ℕ} {early : List Event} {a b : Taped} {resu
   pub usable_release : {page : Page} → (IsTrue told → Guarded (Carries at page) at early (release_writes at) count a b result) → WritesUsable told a b
   usable_release {page} call = λ h. guarded_writes (IsUsableSector (pack a)) (call h) (λ held. release_here (IsUsableSector (pack a)) at (carried_usable (pack a) at page held))
 
-  pub usable_claim : {label value : List ℕ} → (IsTrue told → Guarded (IsFree at) at early (claim_writes at label value) count a b result) → WritesUsable told a b
+  pub usable_claim : {label value : List ℕ} → (IsTrue told → Guarded (λ p. IsFreeSector p at) at early (claim_writes at label value) count a b result) → WritesUsable told a b
   usable_claim {label} {value} call = λ h. guarded_writes (IsUsableSector (pack a)) (call h) (λ free. claim_here (IsUsableSector (pack a)) at (free_usable (pack a) at free) label value)

@@ -4,6 +4,7 @@ use Rattle.std.proofs.lemmas.Bool.Decides.{nat_tests}
 use Rattle.std.specs.Option.{option_or, option_map}
 use Rattle.disk_records.specs.declared.records.Sector.{Sector}
 use Rattle.disk_records.specs.declared.records.Act.TheVariants.{Check, Write}
+use Rattle.disk_records.specs.Frames.{IsFreeSector}
 use Rattle.disk_records.specs.Words.{word}
 use Rattle.disk_records.specs.Addresses.{pages_of, real_of}
 use Rattle.disk_records.specs.Labels.{tag, is_free}
@@ -16,7 +17,7 @@ use Rattle.disk_records.specs.Packs.{Pack, after, sector_at, no_sector, with_par
 use Rattle.disk_records.specs.Tapes.{Taped, DiskAlone, Ran, pack}
 use Rattle.label_check.specs.declared.errors.GuardError.{GuardError}
 use Rattle.label_check.specs.declared.errors.GuardError.TheVariants.{DiskFault, Memory}
-use Rattle.label_check.specs.Guarded.{IsFree, Guarded, DoneWhole}
+use Rattle.label_check.specs.Guarded.{Guarded, DoneWhole}
 use Rattle.label_check.specs.Steps.{Finished, Refused, asks_free}
 use Rattle.label_check.proofs.Guarding.{guarded_then, guarded_whole, guarded_broken, guarded_short, guarded_refused}
 use Rattle.disk_records.proofs.Growing.{pack-after}
@@ -100,27 +101,27 @@ matched_is_free p at value first within none =
     grind (arith, nat_tests)
 
 -- the same of a memory side that asks for a free sector
-asked_is_free : (a : Taped) (at : ℕ) (memory : Sector) → 1 ≤ at → at < pages_of a.form → memory ≡ asks_free a.form at memory.value → mismatch check_and_write memory (sector_at (pack a) at) ≡ None → IsFree at (pack a)
+asked_is_free : (a : Taped) (at : ℕ) (memory : Sector) → 1 ≤ at → at < pages_of a.form → memory ≡ asks_free a.form at memory.value → mismatch check_and_write memory (sector_at (pack a) at) ≡ None → IsFreeSector (pack a) at
 asked_is_free a at memory first within is none = matched_is_free (pack a) at memory.value first within (subst (λ (m : Sector). mismatch check_and_write m (sector_at (pack a) at) ≡ None) is none)
 
 -- the four ways in which the command on a sector that is to be free may end
 pub filled : {a b : Taped} {buffer : Sector} (at : ℕ) (memory : Sector) → 1 ≤ at → at < pages_of a.form → memory ≡ asks_free a.form at memory.value
-    → Ran at check_and_write memory buffer a b (Ok tt) → Guarded {T = Unit {0}} (IsFree at) at [] (value_writes at memory.value) 1 a b (Ok tt)
+    → Ran at check_and_write memory buffer a b (Ok tt) → Guarded {T = Unit {0}} (λ p. IsFreeSector p at) at [] (value_writes at memory.value) 1 a b (Ok tt)
 filled {a} {b} {buffer} at memory first within is ran =
     guarded_whole (asked_is_free a at memory first within is) ran
 
 pub half_filled : {a b : Taped} {buffer : Sector} (at : ℕ) (memory : Sector) → 1 ≤ at → at < pages_of a.form → memory ≡ asks_free a.form at memory.value
-    → Ran at check_and_write memory buffer a b (Err Failed) → Guarded {T = Unit {0}} (IsFree at) at [] (value_writes at memory.value) 1 a b (Err DiskFault)
+    → Ran at check_and_write memory buffer a b (Err Failed) → Guarded {T = Unit {0}} (λ p. IsFreeSector p at) at [] (value_writes at memory.value) 1 a b (Err DiskFault)
 half_filled {a} {b} {buffer} at memory first within is ran =
     guarded_broken (asked_is_free a at memory first within is) ran
 
 pub short_filled : {a b : Taped} {buffer : Sector} (at : ℕ) (memory : Sector) → 1 ≤ at → at < pages_of a.form → memory ≡ asks_free a.form at memory.value
-    → Ran at check_and_write memory buffer a b (Err disk_error.Memory) → Guarded {T = Unit {0}} (IsFree at) at [] (value_writes at memory.value) 1 a b (Err Memory)
+    → Ran at check_and_write memory buffer a b (Err disk_error.Memory) → Guarded {T = Unit {0}} (λ p. IsFreeSector p at) at [] (value_writes at memory.value) 1 a b (Err Memory)
 short_filled {a} {b} {buffer} at memory first within is ran =
     guarded_short (asked_is_free a at memory first within is) ran
 
 pub not_filled : {a b c : Taped} {buffer : Sector} {part word : ℕ} {error : GuardError} (at : ℕ) (memory : Sector) → memory ≡ asks_free a.form at memory.value → DiskAlone a b → DiskAlone b c
-    → Ran at check_and_write memory buffer a b (Err (Mismatch part word)) → Refused at b c error → Guarded {T = Unit {0}} (IsFree at) at [] (value_writes at memory.value) 1 a c (Err error)
+    → Ran at check_and_write memory buffer a b (Err (Mismatch part word)) → Refused at b c error → Guarded {T = Unit {0}} (λ p. IsFreeSector p at) at [] (value_writes at memory.value) 1 a c (Err error)
 not_filled {a} {error = error} at memory is x y ran refused =
     guarded_refused error (λ free. subst (λ (m : Sector). mismatch check_and_write m (sector_at (pack a) at) ≡ None) (sym is) (free_is_matched (pack a) at memory.value free)) x y ran refused
 
@@ -139,8 +140,8 @@ header_stands {a} {b} at memory buffer x ran =
 
 -- and its label can be written
 pub claimed : {a b c : Taped} {result : Result (Unit {0}) GuardError} (at : ℕ) (label : List ℕ) (memory buffer : Sector) → DiskAlone a b → DiskAlone b c → buffer.header ≡ (sector_at (pack b) at).header → buffer.value ≡ memory.value
-    → DoneWhole (IsFree at) (value_writes at memory.value) 1 a b → (mismatch check_and_relabel (record { header = buffer.header; label = label; value = buffer.value }) (sector_at (pack b) at) ≡ None → Finished (relabel_writes at label buffer.value) b c result)
-    → Guarded (IsFree at) at (value_writes at memory.value) (claim_writes at label memory.value) 2 a c result
+    → DoneWhole (λ p. IsFreeSector p at) (value_writes at memory.value) 1 a b → (mismatch check_and_relabel (record { header = buffer.header; label = label; value = buffer.value }) (sector_at (pack b) at) ≡ None → Finished (relabel_writes at label buffer.value) b c result)
+    → Guarded (λ p. IsFreeSector p at) at (value_writes at memory.value) (claim_writes at label memory.value) 2 a c result
 claimed {a} {b} {c} {result} at label memory buffer x y header value done finish =
     let matched : mismatch check_and_relabel (record { header = buffer.header; label = label; value = buffer.value }) (sector_at (pack b) at) ≡ None = rw (header, no_mismatch 0 (sector_at (pack b) at).header) refl in
     guarded_then x y done (subst (λ v. Finished (relabel_writes at label v) b c result) value (finish matched))

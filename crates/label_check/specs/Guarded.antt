@@ -7,19 +7,16 @@ use Rattle.disk_records.specs.declared.shape.Shape.{Shape}
 use Rattle.disk_records.specs.Words.{word}
 use Rattle.disk_records.specs.Addresses.{is_right_header}
 use Rattle.disk_records.specs.Labels.{page_of}
-use Rattle.disk_records.specs.Packs.{Pack, sector_at, carried, is_free_at, label_found}
+use Rattle.disk_records.specs.Packs.{Pack, sector_at, carried, label_found}
 use Rattle.disk_records.specs.Events.{IsFirstOf}
 use Rattle.disk_records.specs.Tapes.{Taped, pack, added, capped}
 use Rattle.label_check.specs.declared.errors.GuardError.{GuardError}
 use Rattle.label_check.specs.declared.errors.GuardError.TheVariants.{Wrong, DiskFault, Memory}
 use Rattle.label_check.specs.declared.errors.PageInfo.{PageInfo}
 
--- what a guard asks: that the sector carries the page, or that it is free
+-- what a guard asks of a page, that the sector carries it; of a free sector it asks `IsFreeSector`
 abbrev pub Carries : ℕ → Page → Pack → Type 0
 Carries at page p = carried p at ≡ Some page
-
-abbrev pub IsFree : ℕ → Pack → Type 0
-IsFree at p = is_free_at p at ≡ true
 
 abbrev pub IfWrong : {T : Type 0} → Result T GuardError → (Option (List ℕ) → Type 0) → Type 0
 IfWrong (Ok x) P = Unit {0}

@@ -12,8 +12,8 @@
 //!    last sector command wrote nothing (`want`).
 //! 5. `look` and `read_page` write nothing, in one sector command (`looks`).
 //!
-//! On every machine `look` and `read_page` answer what the buffer says (`right`, `page`, `whole`, `tells`, `other`), and a fault comes
-//! only where its count rose (`cause`).
+//! On every machine `look` and `read_page` answer what the buffer says (`right`, `page`, `whole`, `tells`, `other`). A fault comes only
+//! where its count rose, and at each other answer the count is as it was (`cause`).
 //! Not promised: that no other sector carries the page. pack_model says which of two counts.
 #![tactic(auto)]
 

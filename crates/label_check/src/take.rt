@@ -2,12 +2,13 @@
 ghost use Rattle.std.specs.Prelude.{◌≡◌, ◌<◌, ◌≤◌, IsTrue, OnOk, true, []};
 ghost use Rattle.disk_records.specs.Addresses.{pages_of};
 ghost use Rattle.disk_records.specs.Causes.{HasCause, IsCause};
+ghost use Rattle.disk_records.specs.Frames.{IsFreeSector};
 ghost use Rattle.disk_records.specs.Commands.{claim_writes, value_writes};
 ghost use Rattle.disk_records.specs.Labels.{tag, in_range};
 ghost use Rattle.disk_records.specs.Packs.{sector_at};
 ghost use Rattle.disk_records.specs.Tapes.{DiskAlone, Looks, pack};
 ghost use Rattle.label_check.specs.Causes.{cause_of_guard};
-ghost use Rattle.label_check.specs.Guarded.{IsFree, Guarded};
+ghost use Rattle.label_check.specs.Guarded.{Guarded};
 ghost use Rattle.label_check.specs.Steps.{Refused, asks_free};
 
 use crate::GuardError;
@@ -55,7 +56,7 @@ fn fill<D: Disk>(disk: &mut D, at: u16, buf: &mut Sector) -> Result<(), GuardErr
     requires first { 1 ≤ at }
     requires place { at < pages_of (D.tape disk.old).form }
     requires asks_free { buf.old ≡ asks_free (D.tape disk.old).form at buf.old.value }
-    ensures guarded { IsTrue D.told → Guarded (IsFree at) at [] (value_writes at buf.old.value) 1 (D.tape disk.old) (D.tape disk.new) result }
+    ensures guarded { IsTrue D.told → Guarded (λ p. IsFreeSector p at) at [] (value_writes at buf.old.value) 1 (D.tape disk.old) (D.tape disk.new) result }
     ensures header { IsTrue D.told → OnOk result (buf.new.header ≡ (sector_at (pack (D.tape disk.new)) at).header) }
     ensures value { IsTrue D.told → OnOk result (buf.new.value ≡ buf.old.value) }
     ensures cause { HasCause cause_of_guard (D.tape disk.old) (D.tape disk.new) result }
@@ -80,7 +81,7 @@ pub fn claim<D: Disk>(
     requires first { 1 ≤ at }
     requires place { at < pages_of (D.tape disk.old).form }
     requires label { in_range (tag label) ≡ true }
-    ensures guarded { IsTrue D.told → Guarded (IsFree at) at (value_writes at value.now) (claim_writes at label value.now) 2 (D.tape disk.old) (D.tape disk.new) result }
+    ensures guarded { IsTrue D.told → Guarded (λ p. IsFreeSector p at) at (value_writes at value.now) (claim_writes at label value.now) 2 (D.tape disk.old) (D.tape disk.new) result }
     ensures cause { HasCause cause_of_guard (D.tape disk.old) (D.tape disk.new) result }
     ensures alone { DiskAlone (D.tape disk.old) (D.tape disk.new) }
 {

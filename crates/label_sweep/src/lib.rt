@@ -4,7 +4,7 @@
 //! pack_model, whose words a `Sight` has. To the layers above, on every machine:
 //! 1. What `see` answers counts 512 bytes at most, and numbers data pages from 1 (`counted`).
 //! 2. `sweep` hands each sector from 1 on to a visitor, once and in rising order, with what it shows (`swept`).
-//! 3. A fault comes only where its count rose (`cause`).
+//! 3. A fault comes only where its count rose, and at each other answer the count is as it was (`cause`).
 //!
 //! And where the machine is modelled:
 //! 4. What `see` answers, with the value that it read, is what the sector shows (`sight`), and so is all that `sweep` hands on.

@@ -3,6 +3,8 @@ pub mod Acting
 pub mod CountLaws
 pub mod Going
 pub mod GoingLaws
+pub mod Several
+pub mod SeveralLaws
 pub mod SoundCalls
 pub mod Writing
 pub mod WritingLaws

@@ -2,7 +2,7 @@
 //!
 //! Come here when you write a call on files or directories that writes, or one that does several of them. `Acts` is what all record writes
 //! of one operation do; `Operates` is what a call that is to do it answers, whatever its errors are; `Goes` is what several such calls have
-//! done so far, and a line that broke off is said by it, too.
+//! done so far, and a line that broke off is said by it, too. `Does` is what one call answers that is to do several operations.
 //!
 //! Below it stand laws_hint and laws_lookup.
 //!
@@ -13,5 +13,6 @@
 pub mod acting;
 pub mod counts;
 pub mod going;
+pub mod several;
 pub mod sound;
 pub mod writing;

@@ -7,6 +7,7 @@ pub mod Dropping
 pub mod Entered
 pub mod Hinting
 pub mod Keeping
+pub mod Leaving
 pub mod Leaders
 pub mod Lengths
 pub mod LineKeeping
@@ -15,3 +16,4 @@ pub mod Parts
 pub mod Released
 pub mod Runs
 pub mod Serials
+pub mod Streamed

@@ -8,6 +8,7 @@ pub mod NameLaws
 pub mod PartLaws
 pub mod RunLaws
 pub mod SerialLaws
+pub mod StreamedLaws
 pub use Rattle.laws_call.specs.alto_words
 pub use Rattle.laws_call.specs.disk_records
 pub use Rattle.laws_call.specs.pack_model

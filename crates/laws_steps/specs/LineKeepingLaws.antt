@@ -1,5 +1,6 @@
 -- Files that were found, over several operations of a line, by the model.
-use Rattle.std.specs.Prelude.{List, Ok, OnOk, Result, Some, [], false, ℕ, ◌++◌, ◌∷◌, ◌≡◌, ◌≤◌}
+use Rattle.std.specs.List.{list_any}
+use Rattle.std.specs.Prelude.{Bool, List, Ok, OnOk, Result, Some, [], false, true, ℕ, ◌++◌, ◌∷◌, ◌≡◌, ◌≤◌}
 use Rattle.laws_call.specs.alto_words.specs.Fid.{disk_descriptor, is_fid}
 use Rattle.laws_call.specs.alto_words.specs.declared.fid.Fid.{Fid}
 use Rattle.laws_call.specs.disk_records.specs.Packs.{Pack, after, sector_at}
@@ -8,9 +9,11 @@ use Rattle.laws_call.specs.disk_records.specs.declared.records.Event.{Event}
 use Rattle.laws_call.specs.disk_records.specs.declared.records.Place.{Place}
 use Rattle.laws_call.specs.Acting.{Around, Operates}
 use Rattle.laws_call.specs.Going.{Goes}
+use Rattle.laws_call.specs.Several.{Done}
 use Rattle.laws_call.specs.Writing.{Written}
 use Rattle.laws_call.specs.laws_line.specs.CrashLaws.{with_serial}
 use Rattle.laws_call.specs.laws_line.specs.Ready.{steps_of}
+use Rattle.laws_call.specs.laws_line.specs.SoundLines.{IsKindOfLine}
 use Rattle.laws_call.specs.pack_model.specs.hints.Sources.{IsFrom}
 use Rattle.laws_call.specs.pack_model.specs.operations.Step.Operation.{cut, drop_file, enter, grow, leave, make, put, stamp, title, widen}
 use Rattle.laws_call.specs.pack_model.specs.operations.Step.{Operation, step}
@@ -73,6 +76,45 @@ MakeKeepsFound = (p : Pack) (at last : ℕ) (f : Fid) (name : List ℕ) (moment 
 -- one after the other do
 abbrev pub LaterKeepsFound : Type 0
 LaterKeepsFound = (p q r : Pack) (ops more : List Operation) → read_as q ≡ steps_of (read_as p) ops → KeepsFound p q ops → KeepsFound q r more → KeepsFound p r (ops ++ more)
+
+-- so do operations that are done one after another, from a whole and tidy pack
+abbrev pub DoneKeepsFound : Type 0 → Type 0
+DoneKeepsFound E = (fault memory : E) (old : Around) (ops : List Operation) (claimed : List ℕ) (new : Around) → Whole (pack old.tape) → Tidy (pack old.tape) → Done fault memory old ops claimed new → KeepsFound (pack old.tape) (pack new.tape) ops
+
+-- ---- by the operations alone
+-- it drops a file, or takes an entry out
+abbrev pub takes_out : Operation → Bool
+takes_out (make f name moment) = false
+takes_out (put f offset new) = false
+takes_out (grow f new) = false
+takes_out (cut f n) = false
+takes_out (title f name) = false
+takes_out (stamp f moment) = false
+takes_out (drop_file f) = true
+takes_out (leave d name) = true
+takes_out (enter d name f) = false
+takes_out (widen d) = false
+
+-- over operations of which none does each file stays found, however it was
+abbrev pub NoLeaveKeepsFound : Type 0
+NoLeaveKeepsFound = (m : Model) (ops : List Operation) (g : Fid) (from : Place) → list_any takes_out ops ≡ false → StaysFoundOver m ops g from
+
+-- it drops this file, or gives its leader a name
+abbrev pub drops_or_titles : Fid → Operation → Bool
+drops_or_titles g (make f name moment) = false
+drops_or_titles g (put f offset new) = false
+drops_or_titles g (grow f new) = false
+drops_or_titles g (cut f n) = false
+drops_or_titles g (title f name) = is_fid g f
+drops_or_titles g (stamp f moment) = false
+drops_or_titles g (drop_file f) = is_fid g f
+drops_or_titles g (leave d name) = false
+drops_or_titles g (enter d name f) = false
+drops_or_titles g (widen d) = false
+
+-- over a line that drops or renames another file, and over each line that drops and renames none, this one stays found
+abbrev pub OtherFilesStayFound : Type 0
+OtherFilesStayFound = (m : Model) (ops : List Operation) (g : Fid) (from : Place) → IsKindOfLine m ops → list_any (drops_or_titles g) ops ≡ false → StaysFoundOver m ops g from
 
 -- ---- over calls
 -- calls on a whole, tidy and unmarked pack that did operations over which such files are found, and then what is written of one more

@@ -6,7 +6,8 @@
 //! slot, is one operation of the line.
 //!
 //! The laws of keeping: files that were found stay found over each operation, except the file that is dropped and one found by the entry that
-//! leaves, and over the open mark and a new serial. The laws of lines: so they do over several operations, by what the model says of each.
+//! leaves, and over the open mark and a new serial. The laws of lines: so they do over several operations, by what the model says of each,
+//! or by the operations alone; and so do the files of open streams over each line of a session.
 //!
 //! By the model alone, the laws of entries: the entry that a name means, over operations on bytes and leaders and over widenings. The laws of
 //! names: a name that no entry has, and the room for one. The laws of lengths: that of a file in which bytes are put, that of a new one, and

@@ -6,7 +6,7 @@ use Rattle.std.specs.Prelude.{nat_lt}
 use Rattle.world_model.specs.Zones.{Block, gap, live, block_size, used_above}
 use Rattle.world_model.specs.ZoneWords.{IsMemory, memory_length, zone_in, zone_start, zone_words}
 use Rattle.laws_zone.specs.Filling.{AreJoined, EachCanStand, IsTop, zone_size}
-use Rattle.laws_zone.specs.PlaceLaws.{CutAt}
+use Rattle.laws_zone.specs.PlaceLaws.{EndsInGap}
 use Rattle.laws_zone.proofs.Rows.{each_last, size_of_both}
 use Rattle.laws_zone.proofs.inside.Growing.{fewer_zeros}
 use Rattle.laws_zone.proofs.inside.Levelling.{not_above}
@@ -57,7 +57,7 @@ joined_rest g (live words ∷ bs) rest n j = joined_rest false bs rest n j
 
 -- ---- the block that is cut
 -- from the word on all are zeros but the tag of that block
-pub zeros_past : (top low from k : ℕ) (memory : List ℕ) → IsTop top → IsMemory top memory → CutAt top low memory from → from < k → drop k memory ≡ replicate (memory_length - k) 0
+pub zeros_past : (top low from k : ℕ) (memory : List ℕ) → IsTop top → IsMemory top memory → EndsInGap top low memory from → from < k → drop k memory ≡ replicate (memory_length - k) 0
 zeros_past top low from k memory t h c more =
     let fills = (memories_have_such_zones top memory t h).0 in
     let size = fills.size in

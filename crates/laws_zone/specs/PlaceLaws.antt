@@ -29,7 +29,7 @@ ZonesGrow =
     → NowHas more old new (grown (more - top) (zone_in top old))
 
 -- The last block of the zone is free, begins at `from`, and ends past the word `low`.
-pub record CutAt (top low : ℕ) (memory : List ℕ) (from : ℕ) : Type 0 where
+pub record EndsInGap (top low : ℕ) (memory : List ℕ) (from : ℕ) : Type 0 where
   pub before : List Block
   pub n : ℕ
   pub zone : zone_in top memory ≡ before ++ gap n ∷ []
@@ -40,6 +40,6 @@ pub record CutAt (top low : ℕ) (memory : List ℕ) (from : ℕ) : Type 0 where
 -- a free block from there up to that word, if there are words between, and zeros after it: the zone has shrunk to it
 abbrev pub ZonesShrink : Type 0
 ZonesShrink =
-    (top low from : ℕ) (old new : List ℕ) → IsTop top → IsTop low → low ≤ top → IsMemory top old → CutAt top low old from → used_above low zone_start (zone_in top old) ≡ None
+    (top low from : ℕ) (old new : List ℕ) → IsTop top → IsTop low → low ≤ top → IsMemory top old → EndsInGap top low old from → used_above low zone_start (zone_in top old) ≡ None
     → new ≡ take from old ++ (zone_words (left_before (low - from) []) ++ replicate (memory_length - low) 0)
     → NowHas low old new (shrunk (low - zone_start) (zone_in top old))

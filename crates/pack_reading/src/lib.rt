@@ -8,7 +8,7 @@
 //! the same for a listing, which shows no byte: of a page of an ordinary file it keeps how many bytes count, and it answers the length of
 //! each file.
 //! 1. At Ok the files and names are those of `show` of the pack, on every machine that is modelled (`read`).
-//! 2. A fault of the disk is answered only where its count rose (`cause`).
+//! 2. A fault of the disk is answered only where its count rose, and at each other answer the count is as it was (`cause`).
 //! 3. Nothing is written, in fewer sector commands than sectors (`looks`).
 #![tactic(auto)]
 

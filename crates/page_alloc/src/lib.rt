@@ -7,7 +7,8 @@
 //! of sectors and the number of sector commands rests on its being true. To the layers above, on every disk:
 //! 1. What `reserve` answers is as many addresses as were asked for, distinct and in rising order, of sectors that can carry a
 //!    page, and busy in the table from then on (`reserved`).
-//! 2. Full has the number that was asked for and a smaller one (`full`), and a fault comes only where its count rose (`cause`).
+//! 2. Full has the number that was asked for and a smaller one (`full`). A fault comes only where its count rose, and at each other
+//!    answer the count is as it was (`cause`).
 //!
 //! And where the machine is modelled:
 //! 3. Each sector that is taken is free (`free`). With a true table they are the lowest (`lowest`), found in as many sector

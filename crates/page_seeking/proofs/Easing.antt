@@ -1,5 +1,5 @@
 -- Pages whose hints are handy: what is tried first is right.
-use Rattle.std.proofs.Common.{◌≡◌, ℕ, suc, ◌-◌, ◌<◌, ◌≤◌, Bool, List, [], ◌∷◌, Option, Some, None, Result, Ok, Err, IsTrue, get_or, inl, inr, refl, sym, ◌∙◌, ap, subst, arith}
+use Rattle.std.proofs.Common.{◌≡◌, ◌≢◌, ℕ, suc, ◌-◌, ◌<◌, ◌≤◌, Bool, List, [], ◌∷◌, Option, Some, None, Result, Ok, Err, IsTrue, get_or, inl, inr, refl, sym, ◌∙◌, ap, subst, arith}
 use Rattle.std.specs.Prelude.{map}
 use Rattle.std.proofs.lemmas.List.Elements.{All-cons, All-map, All-nil}
 use Rattle.alto_words.specs.declared.fid.Fid.{Fid}
@@ -24,7 +24,7 @@ use Rattle.pack_model.specs.reading.Sights.{Sight, sights}
 use Rattle.pack_model.specs.reading.Sights.Sight.{hidden, holds}
 use Rattle.pack_model.specs.states.Whole.{FileWhole, Whole, absent, present}
 use Rattle.page_seeking.specs.declared.seek.Found.{Found}
-use Rattle.page_seeking.specs.Seeking.{KeepsHandy, Quick, QuickCache, Stands, all_listed, as_listed, page_number}
+use Rattle.page_seeking.specs.Seeking.{IsInARow, KeepsHandy, Quick, QuickCache, Stands, all_listed, as_listed, page_number}
 use Rattle.page_seeking.specs.Inside.{Eases, Finds, HandyEntries, IfMissed, IsHandyEntry, IsNoneOr, LeadsTo, Sought}
 use Rattle.page_seeking.proofs.Handing.{placed_within}
 use Rattle.page_seeking.proofs.Recalling.{of_listed}
@@ -121,6 +121,16 @@ leads_to {p} {f} {n} {at} {la} {c} {leader} first x stands =
           | inl zeroth ↦ absurd (omega (arith, same, zeroth))
           | inr found ↦ elim found [ inl right ↦ value last_at_word ∙ one (sym right ∙ there) | inr idle ↦ absurd (no (sym idle ∙ there)) ]
         ]
+
+-- the flag that is set on the pack is set in the leader that was read
+pub row_set : {p : Pack} {f : Fid} {la : ℕ} {leader : Sector} → Whole p → Stands p (page_number f 0) la leader → IsInARow p f → word leader.value row_word ≢ 0
+row_set {p} {f} {la} {leader} whole stands row zeroth =
+    let same : la ≡ row.leader_at = one (sym (carried_place p whole la (page_number f 0) stands.carries) ∙ row.leader) in
+    let value : word leader.value row_word ≡ leader_word p row.leader_at row_word = ap (λ (s : Sector). word s.value row_word) stands.holds ∙ ap (λ i. leader_word p i row_word) same in
+    row.set (sym value ∙ zeroth)
+  where
+    one : {a b : ℕ} → ◌≡◌ {A = Option ℕ} (Some a) (Some b) → a ≡ b
+    one e = cc
 
 -- ---- what a caller sees
 handy_entries : (p : Pack) (f : Fid) (entries : List Entry) → HandyCache (sights p) f (map as_listed entries) → HandyEntries p f entries

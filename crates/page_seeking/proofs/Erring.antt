@@ -1,5 +1,5 @@
 -- The answers of guarded calls as those of calls on files.
-use Rattle.std.proofs.Common.{◌≡◌, ℕ, List, Option, Some, None, Result, Ok, Err, IfOk, OnOk, IsErrOf, refl}
+use Rattle.std.proofs.Common.{◌≡◌, ℕ, List, Option, Some, None, Result, Ok, Err, IfOk, OnOk}
 use Rattle.disk_records.specs.declared.records.Page.{Page}
 use Rattle.label_check.specs.declared.errors.GuardError.{GuardError}
 use Rattle.label_check.specs.declared.errors.GuardError.TheVariants as guard
@@ -10,7 +10,7 @@ use Rattle.page_seeking.specs.declared.refs.FileError.TheVariants.{Misled, Beyon
 use Rattle.page_seeking.specs.Refs.{IfBeyond, IfMisled}
 use Rattle.label_check.specs.declared.errors.LookError.{LookError}
 use Rattle.disk_records.specs.Causes.{IsCause}
-use Rattle.disk_records.specs.Tapes.{Taped, Rose}
+use Rattle.disk_records.specs.Tapes.{Taped}
 use Rattle.page_seeking.specs.Causes.{cause_of_file, cause_of_length}
 use Rattle.page_seeking.specs.declared.seek.Found.{Found}
 use Rattle.page_seeking.specs.Inside.{IfFound, error_at}
@@ -62,6 +62,10 @@ on_ok (Err e) p = tt
 pub on_ok_map : {T E P Q : Type 0} (result : Result T E) → (P → Q) → OnOk result P → OnOk result Q
 on_ok_map (Ok x) f p = f p
 on_ok_map (Err e) f p = tt
+
+pub on_ok_thrice : {T E R : Type 0} {P Q S : T → Type 0} (result : Result T E) → IfOk result P → IfOk result Q → IfOk result S → ((x : T) → P x → Q x → S x → R) → OnOk result R
+on_ok_thrice (Ok x) p q s f = f x p q s
+on_ok_thrice (Err e) p q s f = tt
 
 -- the cause of a call that never answers Beyond
 pub caused_length : (T : Type 0) (a b : Taped) (error : FileError) → IsCause a b (cause_of_file error) → IfBeyond {T = T} (Err error) (λ n. ⊥) → IsCause a b (cause_of_length error)

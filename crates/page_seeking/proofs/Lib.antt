@@ -3,6 +3,7 @@ pub mod Handing
 pub mod Seeking
 pub mod Misleading
 pub mod Erring
+pub mod Forgetting
 pub mod Recalling
 pub mod Recent
 pub mod Ending

@@ -10,7 +10,7 @@ use Rattle.hint_cache.proofs.Listing.{filter-found}
 use Rattle.hint_cache.proofs.Pages.{same_page}
 use Rattle.std.specs.Option.{option_map}
 use Rattle.pack_model.specs.reading.Sights.{sights}
-use Rattle.page_seeking.specs.Inside.{IsHandyEntry, Sought}
+use Rattle.page_seeking.specs.Inside.{IsHandyEntry, KeepsEach, Sought}
 
 -- ---- one entry
 -- what holds of each entry holds of the one that is answered for a page
@@ -46,6 +46,14 @@ sought_forgotten {a = a} {d = d} page is x =
       refused = let grows = x.refused in omega (arith, count, grows);
       handy = λ told whole links f handy. subst (λ (l : List Entry). All (IsHandyEntry (sights (pack a)) f) l) (sym (ap (λ (x : Cached). x.entries) is)) (All-filter (λ e. not (is_page e.page page)) (IsHandyEntry (sights (pack a)) f) d.entries (x.handy told whole links f handy));
     }
+
+-- and before several
+pub sought_kept : {told : Bool} {n : ℕ} {a b : Taped} {c d e : Cached} → e.refused ≡ d.refused → KeepsEach d e → Sought told n a b c d → Sought told n a b c e
+sought_kept {a = a} count keeps x = record { looks = x.looks; refused = let grows = x.refused in omega (arith, count, grows); handy = λ told whole links f handy. keeps (pack a) f (x.handy told whole links f handy) }
+
+-- entries without one stay handy
+pub handy_without : (page : Page) (c d : Cached) → d ≡ record c { entries = without page c.entries } → KeepsEach c d
+handy_without page c d is p f handy = subst (λ (l : List Entry). All (IsHandyEntry (sights p) f) l) (sym (ap (λ (x : Cached). x.entries) is)) (All-filter (λ e. not (is_page e.page page)) (IsHandyEntry (sights p) f) c.entries handy)
 
 -- ---- an entry that was wrong is taken out
 -- a list is shorter without a page that is listed

@@ -17,7 +17,7 @@ use Rattle.disk_records.specs.declared.records.Place.{Place}
 use Rattle.page_seeking.specs.declared.links.Below.{Below}
 use Rattle.page_seeking.specs.declared.seek.Found.{Found}
 use Rattle.page_seeking.specs.Refs.{MisledBy}
-use Rattle.page_seeking.specs.Seeking.{EndsAtPage, IsEnd, Links, Seen, Stands, page_number}
+use Rattle.page_seeking.specs.Seeking.{EndsAtPage, GoesOn, IsEnd, Links, Seen, Stands, page_number}
 use Rattle.page_seeking.proofs.Handing.{handy_noted}
 use Rattle.page_seeking.specs.Inside.{AreNoted, Confirmed, Ends, HandyEntries, KeepsEntriesHandy, Known, Sought, StaysAt}
 
@@ -108,16 +108,25 @@ confirmed_before {told} {n} {a} {b} {page} {c} {d} {e} {buffer} {f} looks grows 
       recent = elim (x.recent) [ inl is ↦ inl is | inr rose ↦ inr (omega (arith, grows, rose)) ];
     }
 
+-- a page that goes on doesn't end its file
+pub goes_not_end : {f : Fid} {n bytes : ℕ} → GoesOn (page_number f n) bytes → EndsAtPage n bytes → ⊥
+goes_not_end goes ends = let first = ends.first in let more = goes.more in elim (goes.full) [ inl zeroth ↦ omega (arith, first, zeroth) | inr full ↦ elim (ends.ends) [ inl short ↦ short full | inr top ↦ omega (arith, more, top) ] ]
+
+-- a page that goes on, or is confirmed after some calls, is so over all of them
+pub near_before : {told : Bool} {n : ℕ} {a b : Taped} {f : Fid} {c d e : Cached} {buffer : Sector} {below : Below} → Looks told n a b → c.refused ≤ d.refused → GoesOn (page_number f below.number) below.found.info.bytes ⊎ Confirmed told (page_number f below.number) b d e buffer below.found
+    → GoesOn (page_number f below.number) below.found.info.bytes ⊎ Confirmed told (page_number f below.number) a c e buffer below.found
+near_before looks grows (inl goes) = inl goes
+near_before looks grows (inr found) = inr (confirmed_before looks grows found)
+
 -- a page that a climb answers is confirmed over the calls before it too, which found the page that it began at
-pub confirmed_reached : {told : Bool} {n : ℕ} {a b : Taped} {f : Fid} {c d e : Cached} {below last : Below} {buffer now : Sector} → Looks told n a b → c.refused ≤ d.refused → (1 ≤ below.number → Confirmed told (page_number f below.number) a c d buffer below.found) → 1 ≤ last.number
-    → StaysAt below buffer d last now e ⊎ Confirmed told (page_number f last.number) b d e now last.found → Confirmed told (page_number f last.number) a c e now last.found
-confirmed_reached {told} {a = a} {f = f} {c} {d} {e} {below} {last} {buffer} {now} looks grows near first (inl stays) =
-    let number = ap (λ (x : Below). x.number) stays.answer in
-    let here = near (omega (arith, first, number)) in
+pub confirmed_reached : {told : Bool} {n : ℕ} {a b : Taped} {f : Fid} {c d e : Cached} {below last : Below} {buffer now : Sector} → Looks told n a b → c.refused ≤ d.refused → GoesOn (page_number f below.number) below.found.info.bytes ⊎ Confirmed told (page_number f below.number) a c d buffer below.found
+    → EndsAtPage last.number last.found.info.bytes → StaysAt below buffer d last now e ⊎ Confirmed told (page_number f last.number) b d e now last.found → Confirmed told (page_number f last.number) a c e now last.found
+confirmed_reached looks grows (inl goes) ends (inl stays) = absurd (goes_not_end goes (subst (λ (x : Below). EndsAtPage x.number x.found.info.bytes) stays.answer ends))
+confirmed_reached {told} {a = a} {f = f} {c} {d} {e} {below} {last} {buffer} {now} looks grows (inr here) ends (inl stays) =
     let cached = subst (λ (x : Cached). Confirmed told (page_number f below.number) a c x buffer below.found) (sym stays.cache_is) here in
     let buffered = subst (λ (x : Sector). Confirmed told (page_number f below.number) a c e x below.found) (sym stays.buffer_is) cached in
     subst (λ (x : Below). Confirmed told (page_number f x.number) a c e now x.found) (sym stays.answer) buffered
-confirmed_reached looks grows near first (inr x) = confirmed_before looks grows x
+confirmed_reached looks grows near ends (inr x) = confirmed_before looks grows x
 
 -- a hint that misled after calls that wrote nothing misled as they began
 pub misled_before : {told : Bool} {n : ℕ} {a b : Taped} {f : Fid} {place : Place} {at : ℕ} {wanted : Page} {found : Option (List ℕ)} → Looks told n a b → IsTrue told → MisledBy (pack b) [] f place at wanted found → MisledBy (pack a) [] f place at wanted found

@@ -131,6 +131,10 @@ HandyEntries p f entries = All (IsHandyEntry (sights p) f) entries
 abbrev pub KeepsEntriesHandy : Bool → Taped → Cached → Cached → Type 0
 KeepsEntriesHandy told old before now = IsTrue told → Whole (pack old) → LinksTrue (pack old) → (f : Fid) → HandyEntries (pack old) f before.entries → HandyEntries (pack old) f now.entries
 
+-- entries that were handy on a pack are so still
+abbrev pub KeepsEach : Cached → Cached → Type 0
+KeepsEach old new = (p : Pack) (f : Fid) → HandyEntries p f old.entries → HandyEntries p f new.entries
+
 -- What each private call that seeks a page leaves: at most so many sector commands that write nothing, and a cache.
 pub record Sought (told : Bool) (most : ℕ) (old new : Taped) (before now : Cached) : Type 0 where
   pub looks : Looks told most old new
@@ -184,3 +188,9 @@ pub record NamesEnd (p : Pack) (f : Fid) (leader : Sector) (n : ℕ) : Type 0 wh
   pub first : 1 ≤ n
   pub number : word leader.value last_number_word ≡ n
   pub carries : carried p (word leader.value last_at_word) ≡ Some (page_number f n)
+
+-- The last page is sought from page n, which the leader names, after one sector command; or that page was found full, and it is sought from
+-- there or from a later one after two.
+pub data Near (told : Bool) (old new : Taped) (f : Fid) (n : ℕ) (below : Below) : Type 0 where
+  at_named : below.number ≡ n → new.runs ≤ old.runs + 1 → Near told old new f n below
+  after_full : (here : Found) → Known told (pack old) old.form (page_number f n) here → here.info.bytes ≡ 512 → n ≤ below.number → new.runs ≤ old.runs + 2 → Near told old new f n below

@@ -11,10 +11,10 @@ use Rattle.disk_records.specs.Tapes.{Rose}
 use Rattle.label_check.specs.declared.errors.PageInfo.{PageInfo}
 use Rattle.label_check.specs.Guarded.{HoldsPage, info_of}
 use Rattle.hint_cache.specs.declared.cache.Entry.{Entry}
-use Rattle.hint_cache.specs.Caches.{Cached, address_in}
+use Rattle.hint_cache.specs.Caches.{Cached, IsHighestBelow, address_in}
 use Rattle.pack_model.specs.operations.Committing.{page_of_byte}
 use Rattle.pack_model.specs.reading.Files.{file_bytes, place}
-use Rattle.pack_model.specs.hints.Handy.{Handy, HandyCache, last_at_word, last_number_word, leader_word}
+use Rattle.pack_model.specs.hints.Handy.{Handy, HandyCache, last_at_word, last_number_word, leader_word, row_word}
 use Rattle.pack_model.specs.hints.Links.{LinksTrue}
 use Rattle.pack_model.specs.reading.Sights.{sights}
 pub use Rattle.pack_model.specs.operations.PageWords.{page_number}
@@ -126,6 +126,12 @@ pub record QuickCache (p : Pack) (f : Fid) (cache : Cached) : Type 0 where
   pub links : LinksTrue p
   pub cached : HandyCache (sights p) f (all_listed cache)
 
+-- The flag of a file's leader that its pages lie in a row is set.
+pub record IsInARow (p : Pack) (f : Fid) : Type 0 where
+  pub leader_at : ℕ
+  pub leader : place (sights p) f 0 ≡ Some leader_at
+  pub set : leader_word p leader_at row_word ≢ 0
+
 -- The last-page words of a file's leader name its last page, and its place.
 pub record LastNamed (p : Pack) (f : Fid) : Type 0 where
   pub leader_at : ℕ
@@ -140,3 +146,9 @@ pub record NamedNearEnd (p : Pack) (f : Fid) (more : ℕ) : Type 0 where
   pub first : 1 ≤ leader_word p leader_at last_number_word
   pub at : place (sights p) f (leader_word p leader_at last_number_word) ≡ Some (leader_word p leader_at last_at_word)
   pub near : page_of_byte (file_length p f) ≤ leader_word p leader_at last_number_word + more
+
+-- The highest page of the file that the cache lists, below the greatest number, is its last page, at its sector.
+pub record EndListed (p : Pack) (f : Fid) (cache : Cached) : Type 0 where
+  pub at : ℕ
+  pub placed : place (sights p) f (page_of_byte (file_length p f)) ≡ Some at
+  pub highest : IsHighestBelow cache.entries f 65535 (record { page = page_number f (page_of_byte (file_length p f)); at = at })

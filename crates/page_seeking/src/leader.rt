@@ -4,7 +4,7 @@ ghost use Rattle.disk_records.specs.Tapes.{pack};
 ghost use Rattle.disk_records.specs.Packs.{carried};
 ghost use Rattle.disk_records.specs.Words.{word};
 ghost use Rattle.hint_cache.specs.Caches.{address_in};
-ghost use Rattle.pack_model.specs.hints.Handy.{last_at_word, last_number_word};
+ghost use Rattle.pack_model.specs.hints.Handy.{last_at_word, last_number_word, row_word};
 ghost use Rattle.pack_model.specs.hints.Misled.{IsOnDisk, leader_page};
 ghost use Rattle.page_seeking.specs.Refs.{FileIsFrom, FileIsRooted, IfMisled, IfBeyond, MisledBy, IsOwnAddress};
 ghost use Rattle.page_seeking.specs.Inside.{Sought, Confirmed, IfFound, IfMissed, EndsAt, Finds, IsNoneOr, LeadsTo, LiesAt};
@@ -103,6 +103,7 @@ pub(crate) fn try_leader_hints<D: Disk>(
     ensures cause { HasCause cause_of_look (D.tape disk.old) (D.tape disk.new) result }
     ensures want { IsTrue D.told → IsErrOf result LookError.Memory → ⊥ }
     ensures quick { (at : ℕ) → IsTrue D.told → carried (pack (D.tape disk.old)) at ≡ Some page → LeadsTo buf.old leader_at page.number at → (D.tape disk.new).runs ≤ (D.tape disk.old).runs + 1 }
+    ensures in_a_row { (at : ℕ) → IsTrue D.told → carried (pack (D.tape disk.old)) at ≡ Some page → LeadsTo buf.old leader_at page.number at → word buf.old.value row_word ≢ 0 → IfMissed result ⊥ }
     ensures passed { (at : ℕ) → IsTrue D.told → carried (pack (D.tape disk.old)) at ≡ Some page → LeadsTo buf.old leader_at page.number at → IfMissed result ((D.tape disk.new).runs ≤ (D.tape disk.old).runs) }
 {
     let row = row_address(buf, leader_at, page.number);
@@ -115,7 +116,8 @@ pub(crate) fn try_leader_hints<D: Disk>(
 
 /// The address of a page if the leader has pages in a row.
 fn row_address(leader: &Sector, leader_at: u16, number: u16) -> Option<u16>
-    ensures { (at : ℕ) → at < 65536 → LiesAt leader.now leader_at number at → IsNoneOr at result }
+    ensures right { (at : ℕ) → at < 65536 → LiesAt leader.now leader_at number at → IsNoneOr at result }
+    ensures set { (at : ℕ) → at < 65536 → LiesAt leader.now leader_at number at → word leader.now.value row_word ≢ 0 → result ≡ Some at }
 {
     if leader.value[ROW] == 0 {
         return None;

@@ -4,8 +4,8 @@
 //! `FileRef`: its full name, the address of its leader page, and where that address was taken from. To the layers above, on every disk:
 //! 1. A page that is answered is in the buffer, under the sector's right header (`seen`), and the cache lists it, and the page after it at
 //!    the sector that its next link names (`listed`).
-//! 2. An error has its cause (`cause`): a fault comes only where its count rose. The table of busy bits stays (`table`), and the count of
-//!    notes that were refused never falls (`refused`): such a note is passed over.
+//! 2. A fault comes only where its count rose, and at each other answer the count is as it was (`cause`). The table of busy bits stays
+//!    (`table`), and the count of notes that were refused never falls (`refused`): such a note is passed over.
 //!
 //! And where the machine is modelled, with any words in hints:
 //! 3. Nothing is written, and `locate` takes no more sector commands than the page's number and 53 (`looks`); one, where the cache has the
@@ -23,7 +23,9 @@
 //! And where the pack is whole:
 //! 8. The bytes (`read`), the length (`length`) and the last page (`last`) are the file's, and Beyond comes by its length (`beyond`).
 //! 9. With true links, hints that are handy stay handy (`handy`), and the page to go on from is listed (`next`): a file that is read in
-//!    parts takes one sector command a page.
+//!    parts takes one sector command a page. A page of a file whose pages lie in a row takes two (`row`).
+//! 10. The last page takes two with true links and handy hints, if the leader names it (`quick`). It takes three with a handy cache,
+//!    whatever the leader names, if it is the highest page that the cache lists (`near`); so it is once it was located (`highest`).
 //!
 //! Not promised: that hints are true. True ones never mislead; that is a law of laws_lookup.
 #![tactic(auto)]

@@ -9,7 +9,7 @@ ghost use Rattle.pack_model.specs.states.Whole.{Whole};
 ghost use Rattle.page_seeking.specs.Causes.{cause_of_file};
 ghost use Rattle.page_seeking.specs.Refs.{FileIsFrom, FileIsRooted, IfMisled, IfBeyond, IsOwnHint, MisledBy, FileStands};
 ghost use Rattle.pack_model.specs.hints.Links.{LinksTrue};
-ghost use Rattle.page_seeking.specs.Seeking.{Seen, Stands, Lists, KeepsHandy, Quick, QuickCache, IsEnd, IsLengthBelow, page_number};
+ghost use Rattle.page_seeking.specs.Seeking.{Seen, Stands, Lists, KeepsHandy, Quick, QuickCache, IsEnd, IsInARow, IsLengthBelow, page_number};
 ghost use Rattle.page_seeking.specs.Inside.{Sought, Confirmed, Known, Eases, Finds};
 ghost use Rattle.label_check.specs.Causes.{cause_of_look};
 
@@ -21,17 +21,21 @@ use disk_records::{Disk, Page, Sector};
 use hint_cache::{HintCache, Hints};
 use label_check::{LookError, PageInfo};
 
-/// The nearest page below one that the cache knows and that is there; the leader, if there is no other. `buf` holds it, if it isn't the
-/// leader. An entry that is wrong is taken out. At most 48 sector commands, and one if the cache is handy.
+/// The most entries of the cache that are tried for one page: as many as it has.
+pub(crate) const MAX_TRIED: usize = 48;
+
+/// The nearest page below one that the cache knows and that is there, after so many tries at most; the leader, if there is no other. `buf`
+/// holds it, if it isn't the leader. An entry that is wrong is taken out. At most one sector command a try, and one if the cache is handy.
 pub(crate) fn nearest_below<D: Disk>(
     disk: &mut D,
     cache: &mut HintCache,
     page: Page,
     leader: Found,
+    most: usize,
     buf: &mut Sector,
 ) -> Result<Below, LookError>
     requires above { 1 ≤ page.number }
-    ensures sought { Sought D.told 48 (D.tape disk.old) (D.tape disk.new) cache.old cache.new }
+    ensures sought { Sought D.told most (D.tape disk.old) (D.tape disk.new) cache.old cache.new }
     ensures lower { IfOk result (λ below. below.number < page.number) }
     ensures found { IfOk result (λ below. 1 ≤ below.number → Confirmed D.told (page_number page.fid below.number) (D.tape disk.old) cache.old cache.new buf.new below.found) }
     ensures known { IsTrue D.told → Known D.told (pack (D.tape disk.old)) (D.tape disk.old).form (page_number page.fid 0) leader → IfOk result (λ below. Known D.told (pack (D.tape disk.old)) (D.tape disk.old).form (page_number page.fid below.number) below.found) }
@@ -39,11 +43,10 @@ pub(crate) fn nearest_below<D: Disk>(
     ensures want { IsTrue D.told → IsErrOf result LookError.Memory → ⊥ }
     ensures quick { (at : ℕ) → IsTrue D.told → Eases (pack (D.tape disk.old)) page.fid page.number at cache.old → IfOk result (λ below. (D.tape disk.new).runs + (page.number - below.number) ≤ (D.tape disk.old).runs + page.number) }
 {
-    // a cache has at most 48 entries, as this call says
-    let _refused = cache.refused();
     let mut above = page.number;
+    let mut left = most;
     while let Some(entry) = cache.highest_below(page.fid, above) {
-        if entry.page.number == 0 {
+        if entry.page.number == 0 || left == 0 {
             break;
         }
         if let Some(found) = try_at(disk, cache, entry.at, entry.page, buf)? {
@@ -54,6 +57,7 @@ pub(crate) fn nearest_below<D: Disk>(
         }
         cache.forget(entry.page);
         above = entry.page.number;
+        left -= 1;
     }
     Ok(Below {
         number: 0,
@@ -80,6 +84,7 @@ fn seek_from_leader<D: Disk>(
     ensures ends { IsTrue D.told → IfBeyond result (IsEnd (pack (D.tape disk.old)) file.now.fid number) }
     ensures never_beyond { number ≤ 1 → IfBeyond result (λ length. ⊥) }
     ensures quick { (at : ℕ) → IsTrue D.told → Eases (pack (D.tape disk.old)) file.now.fid number at cache.old → OnOk result ((D.tape disk.new).runs ≤ (D.tape disk.old).runs + (number + 1)) }
+    ensures row { (at : ℕ) → IsTrue D.told → Eases (pack (D.tape disk.old)) file.now.fid number at cache.old → IsInARow (pack (D.tape disk.old)) file.now.fid → OnOk result ((D.tape disk.new).runs ≤ (D.tape disk.old).runs + 2) }
 {
     let page = Page {
         fid: file.fid,
@@ -89,7 +94,7 @@ fn seek_from_leader<D: Disk>(
     match try_leader_hints(disk, cache, leader.at, page, buf)? {
         Some(found) => Ok(found),
         None => {
-            let below = nearest_below(disk, cache, page, leader, buf)?;
+            let below = nearest_below(disk, cache, page, leader, MAX_TRIED, buf)?;
             climb(disk, cache, file.fid, below, number, buf)
         }
     }
@@ -114,6 +119,7 @@ pub(crate) fn seek_page<D: Disk>(
     ensures never_beyond { number ≤ 1 → IfBeyond result (λ length. ⊥) }
     ensures soon { (at : ℕ) → IsTrue D.told → address_in cache.old.entries (page_number file.now.fid number) ≡ Some at → carried (pack (D.tape disk.old)) at ≡ Some (page_number file.now.fid number) → (D.tape disk.new).runs ≤ (D.tape disk.old).runs + 1 }
     ensures quick { (at : ℕ) → IsTrue D.told → Eases (pack (D.tape disk.old)) file.now.fid number at cache.old → OnOk result ((D.tape disk.new).runs ≤ (D.tape disk.old).runs + (number + 1)) }
+    ensures row { (at : ℕ) → IsTrue D.told → Eases (pack (D.tape disk.old)) file.now.fid number at cache.old → IsInARow (pack (D.tape disk.old)) file.now.fid → OnOk result ((D.tape disk.new).runs ≤ (D.tape disk.old).runs + 2) }
     ensures leader { (at : ℕ) → IsTrue D.told → number ≡ 0 → Finds (pack (D.tape disk.old)) file.now.fid 0 at cache.old → (D.tape disk.new).runs ≤ (D.tape disk.old).runs + 1 }
 {
     if number == 0 {
@@ -161,10 +167,12 @@ pub fn locate<D: Disk>(
     ensures want { IsTrue D.told → IsErrOf result FileError.Memory → ⊥ }
 
     // Nothing is written, and with any hints there are so many sector commands at most; one, if the cache has the page's sector; with true
-    // links and handy hints one more than the page's number; and for the leader page one, if true links and a handy cache are all there is.
+    // links and handy hints one more than the page's number, and two if the flag of the leader is set that its pages lie in a row; and for
+    // the leader page one, if true links and a handy cache are all there is.
     ensures looks { Looks D.told (number + 53) (D.tape disk.old) (D.tape disk.new) }
     ensures soon { (at : ℕ) → IsTrue D.told → address_in hints.old.cache.entries (page_number file.now.fid number) ≡ Some at → carried (pack (D.tape disk.old)) at ≡ Some (page_number file.now.fid number) → (D.tape disk.new).runs ≤ (D.tape disk.old).runs + 1 }
     ensures quick { IsTrue D.told → Quick (pack (D.tape disk.old)) file.now.fid hints.old.cache → OnOk result ((D.tape disk.new).runs ≤ (D.tape disk.old).runs + (number + 1)) }
+    ensures row { IsTrue D.told → Quick (pack (D.tape disk.old)) file.now.fid hints.old.cache → IsInARow (pack (D.tape disk.old)) file.now.fid → OnOk result ((D.tape disk.new).runs ≤ (D.tape disk.old).runs + 2) }
     ensures leader { IsTrue D.told → number ≡ 0 → QuickCache (pack (D.tape disk.old)) file.now.fid hints.old.cache → OnOk result ((D.tape disk.new).runs ≤ (D.tape disk.old).runs + 1) }
 
     // What becomes of the hints.

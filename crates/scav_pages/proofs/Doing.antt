@@ -2,6 +2,7 @@
 use Rattle.std.proofs.Common.{◌≡◌, ℕ, ◌+◌, ◌<◌, ◌≤◌, Bool, IsTrue, List, length, Result, Ok, Err, refl, sym, ap, subst, ◌∙◌, arith}
 use Rattle.std.specs.Prelude.{IfOk, IsErrAnd, IsErrOf}
 use Rattle.disk_records.specs.declared.records.Event.{Event}
+use Rattle.disk_records.specs.Frames.{IsFreeSector}
 use Rattle.disk_records.specs.Commands.{claim_writes, value_writes}
 use Rattle.disk_records.specs.Packs.{Pack, after}
 use Rattle.disk_records.specs.Tapes.{Grown, Looks, Taped, added, pack}
@@ -9,7 +10,7 @@ use Rattle.disk_records.proofs.Growing.{grown_here, grown_twice, nothing_added, 
 use Rattle.disk_records.proofs.Looking.{looks_pack}
 use Rattle.label_check.specs.declared.errors.GuardError.{GuardError}
 use Rattle.label_check.specs.declared.errors.GuardError.TheVariants as guard_error
-use Rattle.label_check.specs.Guarded.{DoneWhole, Guarded, IsFree}
+use Rattle.label_check.specs.Guarded.{DoneWhole, Guarded}
 use Rattle.scav_pages.specs.Changes.{AllMend}
 use Rattle.scav_pages.specs.Keeping.{KeepsFiles}
 use Rattle.scav_pages.specs.declared.errors.Stop.{Stop}
@@ -88,11 +89,11 @@ pub does_stop_two : {a b c : Taped} {S T : Type 0} {Leaves : Pack → Pack → T
 does_stop_two e result x y held all few g is = does_stop e result x y held all (λ memory. (let less = (g.want (ap Err memory)).less in omega (arith, less, few))) g is
 
 -- a claim
-pub claim_near : {b c : Taped} {at : ℕ} {label value : List ℕ} (e : GuardError) → Guarded {T = Unit {0}} (IsFree at) at (value_writes at value) (claim_writes at label value) 2 b c (Err e) → e ≡ guard_error.Memory → b.spare < length (added b c) + 3
+pub claim_near : {b c : Taped} {at : ℕ} {label value : List ℕ} (e : GuardError) → Guarded {T = Unit {0}} (λ p. IsFreeSector p at) at (value_writes at value) (claim_writes at label value) 2 b c (Err e) → e ≡ guard_error.Memory → b.spare < length (added b c) + 3
 claim_near e g memory = (let less = (g.want (ap Err memory)).less in omega (arith, less))
 
-pub does_stop_claim : {a b c : Taped} {T : Type 0} {Leaves : Pack → Pack → T → Type 0} {at : ℕ} {label value : List ℕ} (e : GuardError) (result : Result T Stop) → Going a b → Grown b c → IsFree at (pack b) → Mends (pack b) (claim_writes at label value)
-    → Guarded {T = Unit {0}} (IsFree at) at (value_writes at value) (claim_writes at label value) 2 b c (Err e) → IsErrAnd result (λ s. s ≡ stop_of_guard e) → Does Leaves a c result
+pub does_stop_claim : {a b c : Taped} {T : Type 0} {Leaves : Pack → Pack → T → Type 0} {at : ℕ} {label value : List ℕ} (e : GuardError) (result : Result T Stop) → Going a b → Grown b c → IsFreeSector (pack b) at → Mends (pack b) (claim_writes at label value)
+    → Guarded {T = Unit {0}} (λ p. IsFreeSector p at) at (value_writes at value) (claim_writes at label value) 2 b c (Err e) → IsErrAnd result (λ s. s ≡ stop_of_guard e) → Does Leaves a c result
 does_stop_claim e result x y held all g is = does_stop e result x y held all (claim_near e g) g is
 
 -- a call that only looks

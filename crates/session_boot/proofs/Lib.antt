@@ -2,6 +2,7 @@ pub mod Answers
 pub mod Ends
 pub mod Entering
 pub mod Flushed
+pub mod Framing
 pub mod Goings
 pub mod LineEnds
 pub mod Lined

@@ -1,6 +1,7 @@
 // A session: the pack is opened, typed lines are obeyed in order, and it is closed.
 ghost use Rattle.alto_words.specs.Fid.{disk_descriptor};
 ghost use Rattle.disk_records.specs.Events.{writes_in};
+ghost use Rattle.disk_records.specs.Frames.{WritesUsable};
 ghost use Rattle.disk_records.specs.Tapes.{Grown, added, pack};
 ghost use Rattle.executive.specs.disk_descriptor.specs.Opening.{HasCleanPage};
 ghost use Rattle.executive.specs.pack_model.specs.states.Sound.{mark_clean};
@@ -38,6 +39,7 @@ fn obey_lines<M: Machine>(
     ensures cause { HasFaultCause (M.tape machine.old) (M.tape machine.new) result }
     ensures unfailed { OnOk result (NoFault (M.tape machine.old) (M.tape machine.new)) }
     ensures handed_on { OnOk result (M.handed_on machine.new) }
+    ensures frame { WritesUsable M.told (M.tape machine.old) (M.tape machine.new) }
     ensures grown { Grown (M.tape machine.old) (M.tape machine.new) }
 {
     // One buffer for all lines: each is taken where the last one stood.
@@ -62,7 +64,9 @@ fn obey_lines<M: Machine>(
 /// pack isn't entered, and the one text says why; or a hint failed in the session. DiskFault, KeyFault, DisplayFault: that device failed, and
 /// the session ended there. Memory: none was left. After each of these a pack to which the session wrote may be left open, so that it is
 /// entered no more until it is scavenged; one to which it wrote nothing is as before. Whatever stands on the pack, a key is taken only where
-/// a sector carries DiskDescriptor's page 1 with the clean mark and the right words, and a record is written only after a key was taken. Usage and CannotScavenge are never answered.
+/// a sector carries DiskDescriptor's page 1 with the clean mark and the right words, and a record is written only after a key was taken.
+/// Sector 0 and each sector with a wrong header keep all of their records, and every sector its header. Usage and CannotScavenge are never
+/// answered.
 pub fn boot<M: Machine>(alloc: Global, moment: u32, tally: &mut Tally, machine: &mut M) -> Status
     ensures booted { IsTrue M.told → Booted moment (M.tape machine.old) (M.tape machine.new) tally.old tally.new result }
     ensures unread { IsTrue M.told → (M.tape machine.new).keys ≡ (M.tape machine.old).keys → writes_in (added (M.tape machine.old) (M.tape machine.new)) ≡ 0 }
@@ -72,6 +76,7 @@ pub fn boot<M: Machine>(alloc: Global, moment: u32, tally: &mut Tally, machine: 
     ensures cause { HasStatusCause (M.tape machine.old) (M.tape machine.new) result }
     ensures unfailed { UnlessStopped result (NoFault (M.tape machine.old) (M.tape machine.new)) }
     ensures handed_on { UnlessStopped result (M.handed_on machine.new) }
+    ensures frame { WritesUsable M.told (M.tape machine.old) (M.tape machine.new) }
     ensures grown { Grown (M.tape machine.old) (M.tape machine.new) }
 {
     let limit = limit_of(tally);

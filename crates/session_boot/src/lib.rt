@@ -10,7 +10,8 @@
 //! 4. On a pack that isn't ready and carries no page twice, as a sound one whose mark isn't clean, one text says why, a prefix of it where the
 //!    display failed, and none where the disk failed or no memory was left; nothing is written and no key is taken.
 //! 5. On any pack whatever a key is taken only where a sector carries DiskDescriptor's page 1 with the clean mark and the right words
-//!    (`entered`), and a record is written only after a key was taken (`unread`).
+//!    (`entered`), and a record is written only after a key was taken (`unread`). Sector 0 and each sector with a wrong header keep all of
+//!    their records, and every header stays (`frame`).
 //!
 //! And of every machine: no text is shown while record writes are held back, and unless a fault or out of memory is answered all are handed on
 //! at the end (`handed_on`); texts may be held back then (`flush_display`). Keys that may have to be waited for are read only once all texts

@@ -1,6 +1,7 @@
 // One turn: a line that is obeyed, or the end of the session, and its text.
 ghost use Rattle.disk_records.specs.Causes.{IsCause};
 ghost use Rattle.disk_records.specs.Events.{writes_in};
+ghost use Rattle.disk_records.specs.Frames.{WritesUsable};
 ghost use Rattle.disk_records.specs.Tapes.{DiskAlone, Grown, added};
 ghost use Rattle.exec_session.specs.Ends.{cause_of_reply};
 ghost use Rattle.exec_session.specs.Meant.{kept};
@@ -67,6 +68,7 @@ fn obey_and_flush<D: Disk>(alloc: Global, session: &mut Session, disk: &mut D, l
     ensures formed { Formed (D.tape disk.new).form (kept session.new) }
     ensures cause { IsCause (D.tape disk.old) (D.tape disk.new) (cause_of_reply result) }
     ensures handed_on { IfOk (next_after result) (λ next. D.handed_on disk.new) }
+    ensures frame { WritesUsable D.told (D.tape disk.old) (D.tape disk.new) }
     ensures alone { DiskAlone (D.tape disk.old) (D.tape disk.new) }
 {
     let reply = obey(alloc, session, disk, line);
@@ -81,6 +83,7 @@ fn end_and_flush<D: Disk>(alloc: Global, session: &mut Session, disk: &mut D) ->
     ensures limit { (kept session.new).tally.limit ≡ (kept session.old).tally.limit }
     ensures cause { IsCause (D.tape disk.old) (D.tape disk.new) (cause_of_reply result) }
     ensures handed_on { IfOk (next_after result) (λ next. D.handed_on disk.new) }
+    ensures frame { WritesUsable D.told (D.tape disk.old) (D.tape disk.new) }
     ensures alone { DiskAlone (D.tape disk.old) (D.tape disk.new) }
 {
     let reply = session.end(alloc, disk);
@@ -106,6 +109,7 @@ fn answer_line<M: Machine>(
     ensures unfailed { OnOk result (NoFault (M.tape machine.old) (M.tape machine.new)) }
     ensures handed_on { OnOk result (M.handed_on machine.new) }
     ensures no_key { IsErrOf result Fault.Key → ⊥ }
+    ensures frame { WritesUsable M.told (M.tape machine.old) (M.tape machine.new) }
     ensures grown { Grown (M.tape machine.old) (M.tape machine.new) }
     ensures keys { (M.tape machine.new).keys ≡ (M.tape machine.old).keys }
 {
@@ -134,6 +138,7 @@ fn answer_text<M: Machine>(
     ensures unfailed { OnOk result (NoFault (M.tape machine.old) (M.tape machine.new)) }
     ensures handed_on { OnOk result (M.handed_on machine.new) }
     ensures no_key { IsErrOf result Fault.Key → ⊥ }
+    ensures frame { WritesUsable M.told (M.tape machine.old) (M.tape machine.new) }
     ensures grown { Grown (M.tape machine.old) (M.tape machine.new) }
     ensures keys { (M.tape machine.new).keys ≡ (M.tape machine.old).keys }
 {
@@ -158,6 +163,7 @@ fn answer_typed<M: Machine>(
     ensures cause { HasFaultCause (M.tape machine.old) (M.tape machine.new) result }
     ensures unfailed { OnOk result (NoFault (M.tape machine.old) (M.tape machine.new)) }
     ensures handed_on { IfOk result (λ next. IfSome next (λ over. M.handed_on machine.new)) }
+    ensures frame { WritesUsable M.told (M.tape machine.old) (M.tape machine.new) }
     ensures grown { Grown (M.tape machine.old) (M.tape machine.new) }
 {
     let Some(kept) = take_line(machine, buffer, left)? else {
@@ -187,6 +193,7 @@ pub(crate) fn answer_next<M: Machine>(
     ensures cause { HasFaultCause (M.tape machine.old) (M.tape machine.new) result }
     ensures unfailed { OnOk result (NoFault (M.tape machine.old) (M.tape machine.new)) }
     ensures handed_on { IfOk result (λ next. IfSome next (λ over. M.handed_on machine.new)) }
+    ensures frame { WritesUsable M.told (M.tape machine.old) (M.tape machine.new) }
     ensures grown { Grown (M.tape machine.old) (M.tape machine.new) }
 {
     let is_typed = machine.has_line();
@@ -210,6 +217,7 @@ pub(crate) fn end_session<M: Machine>(
     ensures unfailed { OnOk result (NoFault (M.tape machine.old) (M.tape machine.new)) }
     ensures handed_on { OnOk result (M.handed_on machine.new) }
     ensures no_key { IsErrOf result Fault.Key → ⊥ }
+    ensures frame { WritesUsable M.told (M.tape machine.old) (M.tape machine.new) }
     ensures grown { Grown (M.tape machine.old) (M.tape machine.new) }
     ensures keys { (M.tape machine.new).keys ≡ (M.tape machine.old).keys }
 {

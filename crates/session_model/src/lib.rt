@@ -3,7 +3,7 @@
 //! Come here when you write a line or a call on a session, or doubt what its reply is to be.
 //!
 //! Below it stand alto_words, disk_records, pack_model, exec_words and world_model. It has no function. The contracts of the session's
-//! calls will cite these definitions; the laws over them stand above.
+//! calls cite these definitions; the laws over them stand above.
 //! They read upwards. What an operand means is found in a model (`Finding`); streams keep bytes that aren't written yet (`Streams`);
 //! beside its files a session has a *world* (`Worlds`). A line wants something of each of its operands (`Operands`); it is refused for the
 //! first of a list of reasons (`Refusals`), or it has an effect: operations, a text, another world (`Effects`); so each line has one reply

@@ -1,4 +1,4 @@
-// Twenty typed lines of every verb on a formatted pack: what is shown of each, and what the pack shows after each operation.
+// Twenty typed lines of every verb on files, on a formatted pack: what is shown of each, and what the pack shows after each operation.
 use alto_words::{push_hex, push_number};
 use disk_memory::MemMachine;
 use disk_records::{Sector, Shape};

@@ -161,6 +161,22 @@ fn a_file_that_grows(rt: HostRuntime) -> Result<(), Fail> {
     Ok(())
 }
 
+/// Twenty growths by a page each, without a date between them, so that the leader names page 1 still. The first takes eight sector commands
+/// and each of the others nine, and then the length takes three: the next one would fail.
+#[test]
+fn growths_without_a_date(rt: HostRuntime) -> Result<(), Fail> {
+    let (mut machine, mut held) = made(rt.alloc(), 0)?;
+    // the file was made by four calls
+    machine.fail_at(rt.alloc(), 4 + 8 + 19 * 9 + 3, 0)?;
+    for at in 7..27 {
+        grown(&mut machine, &mut held, &[0x41; 512], &[], &[at])?;
+    }
+    assert_eq!(rt; size(&mut machine, &mut held)?, 10_240);
+    assert_eq!(rt; size(&mut machine, &mut held), Err(FileError::DiskFault));
+    assert_eq!(rt; &machine.sector(5).value[253..256], [6, 1, 0].as_slice());
+    Ok(())
+}
+
 /// The call of the machine that fails, and after how many of its record writes; then the record writes that were made, the operations that
 /// are counted, and the length. Calls 4 and 5 find the last page, 6 to 9 claim, and 13 is the old last page's label.
 const FAULTS: [(u64, u8, u64, u64, u32); 3] = [

@@ -66,6 +66,12 @@ const LINES: Row = Row {
         rmdir SysDir\n\
         delete SysDir\n\
         settime 2000\n\
+        block 100\n\
+        store 1025 7\n\
+        fetch 1025\n\
+        unblock 1025\n\
+        junta 5\n\
+        counterjunta\n\
         append C 43\n\
         stat C\n\
         quit",
@@ -97,6 +103,12 @@ const LINES: Row = Row {
         system file\n\
         is a directory\n\
         done\n\
+        at 1025\n\
+        done\n\
+        7\n\
+        done\n\
+        level 5\n\
+        level 8\n\
         length 3\n\
         #5 length 3 pages 2 created 1000 written 2000 read 1000 name C.\n\
         done",

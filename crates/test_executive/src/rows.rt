@@ -19,7 +19,7 @@ pub(crate) struct Row {
     pub stays: bool,
 }
 
-const ROWS: [Row; 15] = [
+const ROWS: [Row; 25] = [
     Row {
         name: "free pages of a large pack",
         cylinders: 203,
@@ -287,6 +287,288 @@ const ROWS: [Row; 15] = [
         typed: "make A!0\nmake A!02\nmkdir D!2\nmake SysDir",
         shown: "bad line\nbad line\nbad line\nname taken",
         most: ANY,
+        stays: true,
+    },
+    Row {
+        name: "blocks",
+        cylinders: 2,
+        earlier: "",
+        changed: NOTHING,
+        typed: "block 100\n\
+            block 40000\n\
+            store 1025 7\n\
+            fetch 1025\n\
+            store 2000 7\n\
+            unblock 1025\n\
+            unblock 1025",
+        shown: "at 1025\n\
+            no room: largest 39833\n\
+            done\n\
+            7\n\
+            not a block\n\
+            done\n\
+            not a block",
+        most: 0,
+        stays: true,
+    },
+    Row {
+        name: "no line reaches the tag of a block",
+        cylinders: 2,
+        earlier: "",
+        changed: NOTHING,
+        typed: "block 1\n\
+            block 1\n\
+            store 1024 4\n\
+            store 1026 5\n\
+            fetch 1026\n\
+            fetch 1024\n\
+            store 1025 65535\n\
+            fetch 1025\n\
+            fetch 1027\n\
+            unblock 1027\n\
+            fetch 1025",
+        shown: "at 1025\n\
+            at 1027\n\
+            not a block\n\
+            not a block\n\
+            not a block\n\
+            not a block\n\
+            done\n\
+            65535\n\
+            0\n\
+            done\n\
+            65535",
+        most: 0,
+        stays: true,
+    },
+    Row {
+        name: "the lowest free block with room is taken",
+        cylinders: 2,
+        earlier: "",
+        changed: NOTHING,
+        typed: "block 20\n\
+            block 1\n\
+            block 10\n\
+            block 1\n\
+            unblock 1025\n\
+            unblock 1049\n\
+            block 10\n\
+            block 10\n\
+            block 10",
+        shown: "at 1025\n\
+            at 1047\n\
+            at 1049\n\
+            at 1061\n\
+            done\n\
+            done\n\
+            at 1025\n\
+            at 1049\n\
+            at 1063",
+        most: 0,
+        stays: true,
+    },
+    Row {
+        name: "a level that goes and comes back",
+        cylinders: 2,
+        earlier: "",
+        changed: NOTHING,
+        typed: "junta 2\n\
+            type A\n\
+            block 60000\n\
+            counterjunta\n\
+            unblock 1025\n\
+            counterjunta",
+        shown: "level 2\n\
+            needs level 5\n\
+            at 1025\n\
+            in use at 1025\n\
+            done\n\
+            level 8",
+        most: 0,
+        stays: true,
+    },
+    Row {
+        name: "words of the user, of the zone, and of the services",
+        cylinders: 2,
+        earlier: "",
+        changed: NOTHING,
+        typed: "block 65535\n\
+            store 1023 5\n\
+            fetch 1023\n\
+            store 1024 5\n\
+            fetch 1025\n\
+            fetch 40960\n\
+            block 39935\n\
+            store 40959 9\n\
+            fetch 40959\n\
+            fetch 40960\n\
+            block 1",
+        shown: "no room: largest 39935\n\
+            done\n\
+            5\n\
+            not a block\n\
+            not a block\n\
+            not a block\n\
+            at 1025\n\
+            done\n\
+            9\n\
+            not a block\n\
+            no room: largest 0",
+        most: 0,
+        stays: true,
+    },
+    Row {
+        name: "blocks join free ones on both sides",
+        cylinders: 2,
+        earlier: "",
+        changed: NOTHING,
+        typed: "block 10\n\
+            block 10\n\
+            block 10\n\
+            unblock 1037\n\
+            block 12\n\
+            unblock 1061\n\
+            block 11\n\
+            unblock 1037\n\
+            unblock 1025\n\
+            block 24\n\
+            unblock 1061\n\
+            block 23\n\
+            unblock 1025\n\
+            unblock 1049\n\
+            block 39935",
+        shown: "at 1025\n\
+            at 1037\n\
+            at 1049\n\
+            done\n\
+            at 1061\n\
+            done\n\
+            at 1037\n\
+            done\n\
+            done\n\
+            at 1061\n\
+            done\n\
+            at 1025\n\
+            done\n\
+            done\n\
+            at 1025",
+        most: 0,
+        stays: true,
+    },
+    Row {
+        name: "words of a service after a block that is used",
+        cylinders: 2,
+        earlier: "",
+        changed: NOTHING,
+        typed: "block 39935\n\
+            junta 7\n\
+            block 65535\n\
+            counterjunta\n\
+            junta 7\n\
+            block 4095\n\
+            junta 6\n\
+            block 4095\n\
+            counterjunta\n\
+            unblock 45057\n\
+            unblock 40961\n\
+            block 8191\n\
+            unblock 40961\n\
+            counterjunta",
+        shown: "at 1025\n\
+            level 7\n\
+            no room: largest 4095\n\
+            level 8\n\
+            level 7\n\
+            at 40961\n\
+            level 6\n\
+            at 45057\n\
+            in use at 40961\n\
+            done\n\
+            done\n\
+            at 40961\n\
+            done\n\
+            level 8",
+        most: 0,
+        stays: true,
+    },
+    Row {
+        name: "the level is tested before room and blocks",
+        cylinders: 2,
+        earlier: "",
+        changed: NOTHING,
+        typed: "junta 5\n\
+            junta 7\n\
+            junta 1\n\
+            settime 5\n\
+            free\n\
+            block 65535\n\
+            unblock 7\n\
+            unblock 65536\n\
+            store 0 1\n\
+            fetch 0\n\
+            counterjunta",
+        shown: "level 5\n\
+            level 5\n\
+            level 1\n\
+            done\n\
+            needs level 3\n\
+            needs level 2\n\
+            needs level 2\n\
+            bad line\n\
+            done\n\
+            1\n\
+            level 8",
+        most: 0,
+        stays: true,
+    },
+    Row {
+        name: "levels come back in need of a scavenge, too",
+        cylinders: 2,
+        earlier: "make A",
+        changed: ELSEWHERE,
+        typed: "junta 5\n\
+            block 50000\n\
+            type A\n\
+            counterjunta\n\
+            unblock 1025\n\
+            mkdir D\n\
+            junta 9\n\
+            counterjunta",
+        shown: "level 5\n\
+            at 1025\n\
+            hint failed: entry #1 word 29 at 6 wanted #3 v 1 page 0 found 65535 20480 0 0 1 1 0 3\n\
+            in use at 1025\n\
+            needs scavenging\n\
+            needs scavenging\n\
+            bad line\n\
+            in use at 1025",
+        most: ANY,
+        stays: true,
+    },
+    Row {
+        name: "numbers that don't fit",
+        cylinders: 2,
+        earlier: "",
+        changed: NOTHING,
+        typed: "block 0\n\
+            block 65536\n\
+            junta 0\n\
+            junta 9\n\
+            store 65536 0\n\
+            store 0 65536\n\
+            fetch 65536\n\
+            unblock 65536\n\
+            counterjunta 8",
+        shown: "bad line\n\
+            bad line\n\
+            bad line\n\
+            bad line\n\
+            bad line\n\
+            bad line\n\
+            bad line\n\
+            bad line\n\
+            bad line",
+        most: 0,
         stays: true,
     },
 ];

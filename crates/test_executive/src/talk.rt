@@ -77,22 +77,35 @@ pub(crate) fn begin(alloc: Global, shape: Shape, pack: &[Sector]) -> Option<Sess
     }
 }
 
-/// Whether a line only reads.
-fn only_reads(line: &Line) -> bool {
+/// Whether a line writes nothing to the pack.
+fn writes_nothing(line: &Line) -> bool {
     matches!(
         line,
-        Line::ListNames { .. } | Line::TypeOut { .. } | Line::Stat { .. } | Line::Free
+        Line::ListNames { .. }
+            | Line::TypeOut { .. }
+            | Line::Stat { .. }
+            | Line::Free
+            | Line::SetTime { .. }
+            | Line::Store { .. }
+            | Line::Fetch { .. }
+            | Line::Block { .. }
+            | Line::Unblock { .. }
+            | Line::Junta { .. }
+            | Line::CounterJunta
     )
 }
 
-/// Whether a session has all levels, a bit for each sector, and the limit that it began with.
-fn has_same_size(shape: Shape, session: &Session) -> bool {
-    session.level() == 8
-        && session.tally().limit == 7
-        && session.hints.table.pages() == shape.pages()
+/// Whether a session is at this level, unless the line may change it.
+fn keeps_level(line: &Line, level: u8, session: &Session) -> bool {
+    session.level() == level || matches!(line, Line::Junta { .. } | Line::CounterJunta)
 }
 
-/// Puts the text of a reply after what was shown. A line that only reads or is refused writes nothing.
+/// Whether a session has a bit for each sector, and the limit that it began with.
+fn has_same_size(shape: Shape, session: &Session) -> bool {
+    session.tally().limit == 7 && session.hints.table.pages() == shape.pages()
+}
+
+/// Puts the text of a reply after what was shown. A line that writes nothing by its verb, or is refused, wrote nothing.
 fn show(
     alloc: Global,
     line: &Line,
@@ -100,7 +113,7 @@ fn show(
     writes: u64,
     shown: &mut Vec<u8>,
 ) -> Result<(), Fail> {
-    if writes > 0 && (only_reads(line) || matches!(reply, Reply::Refused { .. })) {
+    if writes > 0 && (writes_nothing(line) || matches!(reply, Reply::Refused { .. })) {
         return Err(Fail::new("it wrote"));
     }
     let Ok(text) = reply_text(alloc, reply) else {
@@ -110,7 +123,7 @@ fn show(
 }
 
 /// Types a line in a session on this pack, and puts what is shown after what was shown before. The device fails after so many sector commands.
-/// A line that only reads or is refused writes nothing, and a session keeps no more after a line than before.
+/// A line that writes nothing by its verb, or is refused, wrote nothing, and a session keeps no more after a line than before.
 fn say(
     alloc: Global,
     shape: Shape,
@@ -129,10 +142,11 @@ fn say(
     let Some(mut machine) = machine_over(alloc, shape, pack, most) else {
         return Err(Fail::new("no machine"));
     };
+    let level = session.level();
     let reply = obey(alloc, session, &mut machine, &line);
     let writes = machine.writes();
     *pack = machine.into_sectors();
-    if !has_same_size(shape, session) {
+    if !has_same_size(shape, session) || !keeps_level(&line, level, session) {
         return Err(Fail::new("the session keeps more or less than before"));
     }
     show(alloc, &line, &reply, writes, shown)

@@ -123,7 +123,7 @@ another_leaves p d at a b f own name g (Entry c k) t has same stays =
 
 -- ---- a drop
 -- what is known however it was found
-if_by_entry : (P : Type 0) (from : Place) → P → IfByEntry from P
+pub if_by_entry : (P : Type 0) (from : Place) → P → IfByEntry from P
 if_by_entry P Root h = tt
 if_by_entry P (Entry d w) h = h
 if_by_entry P (Next i) h = tt

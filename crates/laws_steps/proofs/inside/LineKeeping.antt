@@ -5,7 +5,8 @@ use Rattle.std.specs.Option.{option_map}
 use Rattle.laws_call.specs.alto_words.specs.Fid.{is_fid}
 use Rattle.laws_call.specs.alto_words.specs.declared.fid.Fid.{Fid}
 use Rattle.laws_call.specs.alto_words.specs.declared.wanted.Wanted.TheVariants.{Exact}
-use Rattle.laws_call.specs.disk_records.proofs.Growing.{after-append}
+use Rattle.laws_call.proofs.several.Laws.{done_stands}
+use Rattle.laws_call.specs.disk_records.proofs.Growing.{after-append, pack-after, pack-silent}
 use Rattle.laws_call.specs.disk_records.specs.Packs.{Pack, after, sector_at}
 use Rattle.laws_call.specs.disk_records.specs.Tapes.{pack}
 use Rattle.laws_call.specs.disk_records.specs.declared.records.Event.{Event}
@@ -13,6 +14,7 @@ use Rattle.laws_call.specs.disk_records.specs.declared.records.Place.{Place}
 use Rattle.laws_call.specs.disk_records.specs.declared.records.Place.TheVariants.{Entry, Held, Next, Root}
 use Rattle.laws_call.specs.Acting.{begun, refused}
 use Rattle.laws_call.specs.Going.{Goes}
+use Rattle.laws_call.specs.Several.{look, none, then}
 use Rattle.laws_call.specs.Writing.{Written, cuts, drops, enters, grows, leaves, makes, puts, stamps, titles, widens}
 use Rattle.laws_call.specs.laws_line.proofs.crashes.Laws.{crashes_of_an_unmarked_line}
 use Rattle.laws_call.specs.laws_line.specs.CrashLaws.{Batch, LineStays, with_serial}
@@ -31,7 +33,7 @@ use Rattle.laws_call.specs.pack_model.specs.states.Whole.{Tidy, Whole}
 use Rattle.laws_steps.proofs.inside.Descriptor.{serial_keeps_found}
 use Rattle.laws_steps.proofs.inside.Keeping.{written_keeps_found}
 use Rattle.laws_steps.specs.KeepingLaws.{IfByEntry, StaysEntered}
-use Rattle.laws_steps.specs.LineKeepingLaws.{CallKeepsFound, KeepsFound, LaterKeepsFound, MakeKeepsFound, ModelsFoundStaysEntered, NoneKeepsFound, OneCallKeepsFound, OneKeepsFound, SerialAndMakeKeepFound, StaysFound, StaysFoundOver, WrittenKeepsFoundOver}
+use Rattle.laws_steps.specs.LineKeepingLaws.{CallKeepsFound, DoneKeepsFound, KeepsFound, LaterKeepsFound, MakeKeepsFound, ModelsFoundStaysEntered, NoneKeepsFound, OneCallKeepsFound, OneKeepsFound, SerialAndMakeKeepFound, StaysFound, StaysFoundOver, WrittenKeepsFoundOver}
 
 -- ---- by the model
 -- what is asked of an entry follows from another thing that is asked of it
@@ -92,6 +94,16 @@ others m (o ∷ ops) more g from h = others (step m o) ops more g from h.1
 pub later_keeps_found : LaterKeepsFound
 later_keeps_found p q r ops more reads first second g at from stays h =
     second g at from (subst (λ m. StaysFoundOver m more g from) (sym reads) (others (read_as p) ops more g from stays)) (first g at from (first_ones (read_as p) ops more g from stays) h)
+
+-- ---- over operations that are done
+pub done_keeps_found : (E : Type 0) → DoneKeepsFound E
+done_keeps_found E fault memory old ops claimed new w t none = none_keeps_found (pack old.tape)
+done_keeps_found E fault memory old ops claimed new w t (look {mid = mid} done quiet went) =
+    subst (λ q. KeepsFound (pack old.tape) q ops) (sym (pack-silent went.alone.grown quiet.silent)) (done_keeps_found E fault memory old ops claimed mid w t done)
+done_keeps_found E fault memory old all_ops all_claimed new w t (then {ops = ops} {claimed = claimed} {own = own} {mid = mid} {o = o} done one) =
+    let s = done_stands E fault memory old ops claimed mid w t done in
+    later_keeps_found (pack old.tape) (pack mid.tape) (pack new.tape) ops (o ∷ []) s.reads (done_keeps_found E fault memory old ops claimed mid w t done)
+    (subst (λ q. KeepsFound (pack mid.tape) q (o ∷ [])) (sym (pack-after one.went.alone.grown)) (one_call_keeps_found (Unit {0}) E fault memory o own mid new (Ok tt) s.whole s.tidy one.operates))
 
 -- ---- over calls
 -- the pack after calls

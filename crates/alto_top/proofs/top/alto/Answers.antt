@@ -1,6 +1,7 @@
 use Rattle.std.proofs.Common.{map, string_bytes}
 use Rattle.disk_records.specs.Addresses.{disks_of}
 use Rattle.alto_top.proofs.Displayed.{answers_on, concludes_on, touches_on}
+use Rattle.session_boot.proofs.Framing.{usable_still}
 use Rattle.alto_top.proofs.top.alto.Goals as goal
 
 pub returns-clause-does : goal.returns-clause-does
@@ -18,3 +19,6 @@ returns-clause-ends g c =
 
 pub returns-clause-touches : goal.returns-clause-touches
 returns-clause-touches g c = touches_on (map string_bytes c.args.words.now) c.do_asked-answer.ensures.touches c.after_display.ensures.alone
+
+pub returns-clause-frame : goal.returns-clause-frame
+returns-clause-frame g c = λ no_header. usable_still c.do_asked-answer.ensures.touches.grown (λ told. (c.after_display.ensures.told told).1) (c.do_asked-answer.ensures.frame no_header)

@@ -3,6 +3,7 @@ use Rattle.disk_records.specs.Addresses.{disks_of}
 use Rattle.alto_top.proofs.Asking.{done_of_two, format_is_no_boot, format_is_no_prepare, format_is_no_scavenge, format_is_no_show, format_of_one_number, prepare_can, prepare_is_no_scavenge, prepare_is_no_show, prepare_needs_none, usage_of_one}
 use Rattle.alto_top.specs.Formats.{FormatsPack}
 use Rattle.alto_top.specs.Top.{AnswersPrepare, AnswersUsage, AsksFormat, AsksPrepare}
+use Rattle.alto_top.proofs.Framing.{scavenge_usable, show_usable, usage_usable}
 use Rattle.alto_top.proofs.top.do_asked.Goals as goal
 
 pub returns-in-Format-clause-does : goal.returns-in-Format-clause-does
@@ -57,3 +58,22 @@ returns-in-Prepare-clause-answers g c =
       prepare = λ n other. c.prepare_or_usage.ensures.answers;
       others = λ usage. absurd (usage.no_prepare c.in-Prepare.number asks);
     }
+
+-- ---- where it writes
+pub returns-in-Boot-clause-frame : goal.returns-in-Boot-clause-frame
+returns-in-Boot-clause-frame g c = λ no_header. c.boot_uncounted.ensures.frame
+
+pub returns-in-Show-clause-frame : goal.returns-in-Show-clause-frame
+returns-in-Show-clause-frame g c = λ no_header. show_usable c.show_pack.ensures.shown
+
+pub returns-in-Scavenge-clause-frame : goal.returns-in-Scavenge-clause-frame
+returns-in-Scavenge-clause-frame g c = λ no_header. scavenge_usable c.scavenge_pack.ensures.scavenges
+
+pub returns-in-Format-clause-frame : goal.returns-in-Format-clause-frame
+returns-in-Format-clause-frame g c = λ no_header. absurd (no_header.no_format c.in-Format.number c.in-Format.ensures)
+
+pub returns-in-Prepare-clause-frame : goal.returns-in-Prepare-clause-frame
+returns-in-Prepare-clause-frame g c = λ no_header. absurd (no_header.no_prepare c.in-Prepare.number c.in-Prepare.ensures)
+
+pub returns-in-Nothing-clause-frame : goal.returns-in-Nothing-clause-frame
+returns-in-Nothing-clause-frame g c = λ no_header. usage_usable c.show_usage.ensures.shown

@@ -17,6 +17,7 @@ use Rattle.page_seeking.proofs.Seeking.{misled_before}
 use Rattle.directory.specs.Found.{IsQuick, ListsLastPage}
 use Rattle.directory.proofs.Paging.{ends_full, take_short, visited_all, visited_none}
 use Rattle.directory.proofs.Quickly.{IsAhead, ahead_first, handy_twice}
+use Rattle.directory.proofs.Reading.{carries_next, no_page_more, one_page_more}
 use Rattle.directory.proofs.Standing.{once_of_whole}
 use Rattle.directory.proofs.Walking.{ended_cause, ended_memory, ended_misled, ended_within, last_number, ok_of_beyond, page_last, page_more, quick_end, quick_last, quick_more}
 use Rattle.directory.proofs.walk.visit_slots.Goals as goal
@@ -31,6 +32,8 @@ loop-full-init g c =
       walks = ([], c.new-walk.ensures.start);
       taken = omega (arith, place, held);
       looks = looks_none _ first;
+      runs = λ told. omega arith;
+      carries = λ told n some none. absurd (omega (arith, some, none));
       table = refl;
       refused = omega arith;
       handy = λ told whole links f handy. handy;
@@ -191,6 +194,8 @@ loop-full-preserved g c =
       walks = let w = inv.walks in (_, (c.in-Ok-visit_words.ensures.visits w.0 w.1).walked);
       taken = let more = take_short (c.from.result / 2) c.locate.new.buf.value in let before = inv.taken in omega (arith, before, taken, more, few, same_bytes);
       looks = looks_twice _ inv.looks c.locate.ensures.looks (omega arith);
+      runs = λ told. one_page_more _ k (inv.runs told) (c.locate.ensures.looks.runs told);
+      carries = λ told. carries_next p f k c.in-Ok.field-0-0 (ap (λ (q : Pack). carried q c.in-Ok.field-0-0) (sym (looks_pack inv.looks told)) ∙ (c.in-Ok.ensures.stands told).carries) (inv.carries told);
       table = c.locate.ensures.table ∙ inv.table;
       refused = let a = inv.refused in let b = c.locate.ensures.refused in subst (λ (k : Cached). c.args.hints.now.cache.refused ≤ k.refused) kept (omega (arith, a, b));
       handy = λ told. subst (λ (k : Cached). KeepsHandy p c.args.hints.now.cache k) kept (handy_twice p (pack here) c.args.hints.now.cache c.loop-full.hints.cache c.locate.new.hints.cache (looks_pack inv.looks told) (inv.handy told) (c.locate.ensures.handy told));
@@ -221,3 +226,16 @@ returns-clause-quick g c = λ told quick.
     let p = pack (g.D.Tape.tape c.args.disk.now) in
     let inv = c.loop-full.invariant in
     quick_end p c.args.dir.now.fid c.loop-full.full c.args.hints.now.cache c.loop-full.hints.cache (g.D.Tape.tape c.args.disk.now) (g.D.Tape.tape c.loop-full.disk) (inv.visited told (once_of_whole p quick.whole)).before (omega arith) (inv.ahead told quick)
+
+-- ---- pages that were read
+pub returns-in-Err-clause-pages : goal.returns-in-Err-clause-pages
+returns-in-Err-clause-pages g c = λ told. let inv = c.loop-full.invariant in record { last = c.loop-full.full; carries = inv.carries told; runs = one_page_more _ c.loop-full.full (inv.runs told) (c.locate.ensures.looks.runs told) }
+
+pub returns-in-Err-visit_words-clause-pages : goal.returns-in-Err-visit_words-clause-pages
+returns-in-Err-visit_words-clause-pages g c = λ told. let inv = c.loop-full.invariant in record { last = c.loop-full.full; carries = inv.carries told; runs = one_page_more _ c.loop-full.full (inv.runs told) (c.locate.ensures.looks.runs told) }
+
+pub returns-then-info-ne-PAGE_BYTES-clause-pages : goal.returns-then-info-ne-PAGE_BYTES-clause-pages
+returns-then-info-ne-PAGE_BYTES-clause-pages g c = λ told. let inv = c.loop-full.invariant in record { last = c.loop-full.full; carries = inv.carries told; runs = one_page_more _ c.loop-full.full (inv.runs told) (c.locate.ensures.looks.runs told) }
+
+pub returns-clause-pages : goal.returns-clause-pages
+returns-clause-pages g c = λ told. let inv = c.loop-full.invariant in record { last = c.loop-full.full; carries = inv.carries told; runs = no_page_more _ c.loop-full.full (inv.runs told) }

@@ -1,5 +1,6 @@
 use Rattle.std.proofs.Common.{◌≡◌, ℕ, Bool, List, Result, Ok, Err, OnErr, OnOk, refl, true, false, ap, sym, subst, ◌∙◌}
 use Rattle.std.specs.Result.{IsErrAnd}
+use Rattle.disk_records.proofs.Framing.{usable_here}
 use Rattle.disk_records.proofs.Growing.{alone_here}
 use Rattle.disk_records.specs.Causes.{IsCause, never}
 use Rattle.disk_records.specs.Tapes.{Taped}
@@ -14,6 +15,7 @@ use Rattle.exec_session.specs.declared.stop.Stop.{Stop}
 use Rattle.exec_session.specs.declared.stop.Stop.TheVariants as stop
 use Rattle.exec_session.proofs.Causing.{cause_by_desc, cause_passed}
 use Rattle.exec_session.proofs.Stopping.{error_is}
+use Rattle.disk_descriptor.proofs.Framing.{usable_own}
 use Rattle.exec_session.proofs.end.close.Goals as goal
 
 -- ---- the error of DiskDescriptor's call
@@ -73,6 +75,9 @@ returns-then-session-clause-cause g c = refl
 pub returns-then-session-clause-alone : goal.returns-then-session-clause-alone
 returns-then-session-clause-alone g c = alone_here (g.D.Tape.tape c.args.disk.now)
 
+pub returns-then-session-clause-frame : goal.returns-then-session-clause-frame
+returns-then-session-clause-frame g c = usable_here (g.D.Tape.tape c.args.disk.now)
+
 -- ---- it isn't closed
 pub returns-in_err-close_pack-clause-in_need : goal.returns-in_err-close_pack-clause-in_need
 returns-in_err-close_pack-clause-in_need g c = λ need. not_both _ need c.if-session.false
@@ -105,6 +110,9 @@ returns-in_err-close_pack-clause-cause g c = cause_passed (g.D.Tape.tape c.args.
 pub returns-in_err-close_pack-clause-alone : goal.returns-in_err-close_pack-clause-alone
 returns-in_err-close_pack-clause-alone g c = c.in_err-close_pack.ensures.alone
 
+pub returns-in_err-close_pack-clause-frame : goal.returns-in_err-close_pack-clause-frame
+returns-in_err-close_pack-clause-frame g c = usable_own c.in_err-close_pack.ensures.guarded
+
 -- ---- it is
 pub returns-clause-in_need : goal.returns-clause-in_need
 returns-clause-in_need g c = λ need. not_both _ need c.if-session.false
@@ -129,3 +137,6 @@ returns-clause-cause g c = c.in_ok-close_pack.ensures.cause
 
 pub returns-clause-alone : goal.returns-clause-alone
 returns-clause-alone g c = c.in_ok-close_pack.ensures.alone
+
+pub returns-clause-frame : goal.returns-clause-frame
+returns-clause-frame g c = usable_own c.in_ok-close_pack.ensures.guarded

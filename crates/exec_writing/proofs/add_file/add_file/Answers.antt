@@ -1,4 +1,5 @@
 use Rattle.std.proofs.Common.{◌+◌, ◌<◌, ◌≡◌, ◌∷◌, ℕ, List, [], Result, Ok, Err, get_or, take, sym, subst, ap, ◌∙◌}
+use Rattle.disk_records.proofs.Framing.{usable_looks, usable_twice}
 use Rattle.alto_words.specs.Fid.{sys_dir}
 use Rattle.alto_words.specs.declared.fid.Fid.{Fid}
 use Rattle.disk_records.proofs.Growing.{alone_twice}
@@ -8,17 +9,18 @@ use Rattle.page_seeking.specs.declared.refs.FileRef.{FileRef}
 use Rattle.exec_session.proofs.Stopping.{error_is}
 use Rattle.session_model.specs.Refusals.{most_serials}
 use Rattle.exec_session.specs.Meant.{kept}
-use Rattle.exec_session.specs.Rooms.{pages_planned}
+use Rattle.exec_steps.specs.Rooms.{pages_planned}
 use Rattle.exec_session.specs.declared.session.Session.{Session}
 use Rattle.exec_session.specs.declared.stop.Stop.{Stop}
-use Rattle.exec_session.specs.Asked.{MayMakeEntered, made_entered, made_fid}
-use Rattle.exec_session.specs.Midway.{StepsOn}
+use Rattle.exec_steps.specs.Asked.{MayMakeEntered, made_entered, made_fid}
+use Rattle.exec_steps.specs.Midway.{StepsOn}
 use Rattle.exec_writing.proofs.AddedFile.{asks, file_done, file_stops, has_sectors, mark_stops, may, reserve_stops}
 use Rattle.exec_writing.proofs.Ends.{begins_sound}
-use Rattle.exec_session.proofs.Frames.{cause_after, cause_passed, if_refused, never_refused, works_reserved, works_twice}
+use Rattle.exec_steps.proofs.Frames.{cause_after, cause_passed, if_refused, never_refused, works_reserved, works_twice}
 use Rattle.exec_writing.proofs.Required.{enough_sectors, shape_worked, sized_worked}
 use Rattle.exec_writing.specs.Writes.{WritesLine}
 use Rattle.exec_session.proofs.Parts.{ok_of_error}
+use Rattle.exec_session.proofs.Framing.{usable_looked}
 use Rattle.exec_writing.proofs.add_file.add_file.Goals as goal
 
 -- ---- what is required
@@ -131,11 +133,20 @@ returns-clause-writes g c = λ s l told begins adds.
 pub returns-in_err-open_mark-clause-alone : goal.returns-in_err-open_mark-clause-alone
 returns-in_err-open_mark-clause-alone g c = alone_twice c.in_ok-fresh.ensures.looks.alone c.in_err-open_mark.ensures.alone
 
+pub returns-in_err-open_mark-clause-frame : goal.returns-in_err-open_mark-clause-frame
+returns-in_err-open_mark-clause-frame g c = usable_looked c.in_ok-fresh.ensures.looks c.in_err-open_mark.ensures.alone c.in_err-open_mark.ensures.frame
+
 pub returns-in_err-file-clause-alone : goal.returns-in_err-file-clause-alone
 returns-in_err-file-clause-alone g c = alone_twice (alone_twice c.in_ok-fresh.ensures.looks.alone c.in_ok-open_mark.ensures.alone) c.in_err-file.ensures.alone
 
+pub returns-in_err-file-clause-frame : goal.returns-in_err-file-clause-frame
+returns-in_err-file-clause-frame g c = usable_looked c.in_ok-fresh.ensures.looks (alone_twice c.in_ok-open_mark.ensures.alone c.in_err-file.ensures.alone) (usable_twice c.in_ok-open_mark.ensures.alone c.in_err-file.ensures.alone c.in_ok-open_mark.ensures.frame c.in_err-file.ensures.frame)
+
 pub returns-clause-alone : goal.returns-clause-alone
 returns-clause-alone g c = alone_twice (alone_twice c.in_ok-fresh.ensures.looks.alone c.in_ok-open_mark.ensures.alone) c.in_ok-file.ensures.alone
+
+pub returns-clause-frame : goal.returns-clause-frame
+returns-clause-frame g c = usable_looked c.in_ok-fresh.ensures.looks (alone_twice c.in_ok-open_mark.ensures.alone c.in_ok-file.ensures.alone) (usable_twice c.in_ok-open_mark.ensures.alone c.in_ok-file.ensures.alone c.in_ok-open_mark.ensures.frame c.in_ok-file.ensures.frame)
 
 -- no fault came
 pub returns-clause-cause : goal.returns-clause-cause
@@ -182,6 +193,9 @@ returns-in_err-fresh-clause-made g c = ok_of_error (λ s. s ≡ c.in_err-fresh.f
 
 pub returns-in_err-fresh-clause-alone : goal.returns-in_err-fresh-clause-alone
 returns-in_err-fresh-clause-alone g c = c.in_err-fresh.ensures.looks.alone
+
+pub returns-in_err-fresh-clause-frame : goal.returns-in_err-fresh-clause-frame
+returns-in_err-fresh-clause-frame g c = usable_looks c.in_err-fresh.ensures.looks
 
 pub returns-in_err-open_mark-clause-made : goal.returns-in_err-open_mark-clause-made
 returns-in_err-open_mark-clause-made g c = ok_of_error (λ s. s ≡ c.in_err-open_mark.field-0.0) _ c.from_residual-in_err-open_mark.result c.from_residual-in_err-open_mark.ensures.1

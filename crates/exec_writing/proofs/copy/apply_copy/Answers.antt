@@ -1,4 +1,5 @@
 use Rattle.std.proofs.Common.{All, None, Some, Vec, false, min, true, ◌∷◌, Err, IfOk, Result, [], List, ℕ, get_or, length, ◌+◌, ◌<◌, ◌≡◌, ◌/◌, ◌∙◌, ap, subst, sym}
+use Rattle.disk_records.proofs.Framing.{usable_looks, usable_twice}
 use Rattle.alto_words.specs.Fid.{sys_dir}
 use Rattle.alto_words.specs.declared.fid.Fid.{Fid}
 use Rattle.disk_records.proofs.Growing.{alone_twice, silent_twice}
@@ -12,26 +13,27 @@ use Rattle.page_alloc.specs.Free.{IsReserved}
 use Rattle.pack_model.specs.hints.Tables.{TableTrue}
 use Rattle.pack_model.specs.reading.Model.{read_as, room}
 use Rattle.pack_model.specs.states.Sound.{Sound}
-use Rattle.exec_session.proofs.SectorTaking.{each_sector}
+use Rattle.exec_steps.proofs.SectorTaking.{each_sector}
 use Rattle.exec_session.proofs.Stopping.{error_is}
 use Rattle.session_model.specs.Refusals.{most_serials}
 use Rattle.exec_session.specs.Meant.{kept}
-use Rattle.exec_session.specs.Rooms.{pages_planned}
+use Rattle.exec_steps.specs.Rooms.{pages_planned}
 use Rattle.exec_session.specs.declared.session.Session.{Session}
 use Rattle.exec_session.specs.declared.stop.Stop.{Stop}
-use Rattle.exec_session.specs.Asked.{made_fid}
-use Rattle.exec_session.specs.Midway.{StepsOn}
+use Rattle.exec_steps.specs.Asked.{made_fid}
+use Rattle.exec_steps.specs.Midway.{StepsOn}
 use Rattle.exec_writing.specs.Entries.{new_refusal}
 use Rattle.exec_writing.specs.Plans.{MayCopy, copied}
 use Rattle.exec_writing.specs.Writes.{WritesLine}
 use Rattle.exec_writing.proofs.CopyLine.{asks, copying_ends, left_before, looked_hints, mark_stops, may, pages_asked, reading_stops, refusal_before, reserved_hints, reserves_before, reserving_stops, source_lives, true_before}
 use Rattle.exec_writing.proofs.Ends.{begins_sound}
-use Rattle.exec_session.proofs.Frames.{cause_after, cause_passed, if_refused, never_refused, works_looked, works_reserved, works_twice}
+use Rattle.exec_steps.proofs.Frames.{cause_after, cause_passed, if_refused, never_refused, works_looked, works_reserved, works_twice}
 use Rattle.exec_writing.proofs.NewSectors.{refused_then}
 use Rattle.exec_writing.proofs.Required.{enough_sectors, shape_worked, sized_worked}
 use Rattle.exec_session.proofs.LookedBefore.{same_count}
 use Rattle.exec_session.proofs.Causing.{cause_sooner}
 use Rattle.exec_session.proofs.Parts.{ok_of_error}
+use Rattle.exec_session.proofs.Framing.{usable_looked}
 use Rattle.exec_writing.proofs.copy.apply_copy.Goals as goal
 
 -- ---- what is required
@@ -77,11 +79,20 @@ write_copy-requires-clause-many g c = enough_sectors c.args.plan.now.entry _ _ _
 pub returns-in_err-fresh-clause-alone : goal.returns-in_err-fresh-clause-alone
 returns-in_err-fresh-clause-alone g c = alone_twice c.in_ok-bytes.ensures.looks.looks.alone c.in_err-fresh.ensures.looks.alone
 
+pub returns-in_err-fresh-clause-frame : goal.returns-in_err-fresh-clause-frame
+returns-in_err-fresh-clause-frame g c = usable_looked c.in_ok-bytes.ensures.looks.looks c.in_err-fresh.ensures.looks.alone (usable_looks c.in_err-fresh.ensures.looks)
+
 pub returns-in_err-open_mark-clause-alone : goal.returns-in_err-open_mark-clause-alone
 returns-in_err-open_mark-clause-alone g c = alone_twice c.in_ok-bytes.ensures.looks.looks.alone (alone_twice c.in_ok-fresh.ensures.looks.alone c.in_err-open_mark.ensures.alone)
 
+pub returns-in_err-open_mark-clause-frame : goal.returns-in_err-open_mark-clause-frame
+returns-in_err-open_mark-clause-frame g c = usable_looked c.in_ok-bytes.ensures.looks.looks (alone_twice c.in_ok-fresh.ensures.looks.alone c.in_err-open_mark.ensures.alone) (usable_looked c.in_ok-fresh.ensures.looks c.in_err-open_mark.ensures.alone c.in_err-open_mark.ensures.frame)
+
 pub returns-clause-alone : goal.returns-clause-alone
 returns-clause-alone g c = alone_twice c.in_ok-bytes.ensures.looks.looks.alone (alone_twice c.in_ok-fresh.ensures.looks.alone (alone_twice c.in_ok-open_mark.ensures.alone c.write_copy.ensures.alone))
+
+pub returns-clause-frame : goal.returns-clause-frame
+returns-clause-frame g c = usable_looked c.in_ok-bytes.ensures.looks.looks (alone_twice c.in_ok-fresh.ensures.looks.alone (alone_twice c.in_ok-open_mark.ensures.alone c.write_copy.ensures.alone)) (usable_looked c.in_ok-fresh.ensures.looks (alone_twice c.in_ok-open_mark.ensures.alone c.write_copy.ensures.alone) (usable_twice c.in_ok-open_mark.ensures.alone c.write_copy.ensures.alone c.in_ok-open_mark.ensures.frame c.write_copy.ensures.frame))
 
 -- ---- what it writes
 pub returns-in_err-bytes-clause-writes : goal.returns-in_err-bytes-clause-writes
@@ -253,6 +264,9 @@ returns-in_err-bytes-clause-made g c = ok_of_error (λ s. s ≡ c.in_err-bytes.f
 
 pub returns-in_err-bytes-clause-alone : goal.returns-in_err-bytes-clause-alone
 returns-in_err-bytes-clause-alone g c = c.in_err-bytes.ensures.looks.looks.alone
+
+pub returns-in_err-bytes-clause-frame : goal.returns-in_err-bytes-clause-frame
+returns-in_err-bytes-clause-frame g c = usable_looks c.in_err-bytes.ensures.looks.looks
 
 pub returns-in_err-fresh-clause-made : goal.returns-in_err-fresh-clause-made
 returns-in_err-fresh-clause-made g c = ok_of_error (λ s. s ≡ c.in_err-fresh.field-0.0) _ c.from_residual-in_err-fresh.result c.from_residual-in_err-fresh.ensures.1

@@ -1,4 +1,5 @@
 use Rattle.std.proofs.Common.{◌≡◌, ◌+◌, false, ap, subst, sym, ◌∙◌, []}
+use Rattle.disk_records.proofs.Framing.{usable_looks}
 use Rattle.disk_records.proofs.Growing.{alone_twice, silent_twice}
 use Rattle.disk_records.proofs.Looking.{looks_pack}
 use Rattle.disk_records.specs.Tapes.{Taped, pack, added}
@@ -12,11 +13,11 @@ use Rattle.session_model.specs.Keeping.{Kept, world_of}
 use Rattle.session_model.specs.Turning.{State}
 use Rattle.exec_session.specs.Meant.{kept}
 use Rattle.exec_session.specs.Turned.{Begins}
-use Rattle.exec_session.specs.Asked.{made_fid}
+use Rattle.exec_steps.specs.Asked.{made_fid}
 use Rattle.exec_writing.specs.Plans.{IsCopying}
 use Rattle.exec_writing.specs.declared.copy.Copying.{Copying}
 use Rattle.exec_writing.proofs.Ends.{begins_last, begins_sound, planning_stops, text_missing, writing_done, writing_stops}
-use Rattle.exec_session.proofs.Frames.{stays_worked, works_looked, works_twice, cause_after, cause_passed, if_refused, never_refused}
+use Rattle.exec_steps.proofs.Frames.{stays_worked, works_looked, works_twice, cause_after, cause_passed, if_refused, never_refused}
 use Rattle.exec_session.proofs.TakingUp.{typed_line}
 use Rattle.exec_writing.proofs.Refusing.{both}
 use Rattle.exec_writing.proofs.Sorts.{copy_on}
@@ -24,6 +25,7 @@ use Rattle.exec_session.proofs.LookedBefore.{same_count}
 use Rattle.alto_words.specs.declared.fid.Fid.{Fid}
 use Rattle.exec_session.proofs.Stopping.{refused_of_stop}
 use Rattle.exec_session.specs.declared.stop.Stop.TheVariants as stop
+use Rattle.exec_session.proofs.Framing.{usable_looked}
 use Rattle.exec_writing.proofs.copy.copy_file.Goals as goal
 
 -- what is planned, on the pack that is as it was
@@ -56,11 +58,20 @@ apply_copy-requires-clause-sized g c = (stays_worked (g.D.Tape.tape c.args.disk.
 pub returns-in_err-fid-clause-alone : goal.returns-in_err-fid-clause-alone
 returns-in_err-fid-clause-alone g c = alone_twice c.in_ok-plan.ensures.looks.looks.alone c.in_err-fid.ensures.alone
 
+pub returns-in_err-fid-clause-frame : goal.returns-in_err-fid-clause-frame
+returns-in_err-fid-clause-frame g c = usable_looked c.in_ok-plan.ensures.looks.looks c.in_err-fid.ensures.alone c.in_err-fid.ensures.frame
+
 pub returns-in_err-made_text-clause-alone : goal.returns-in_err-made_text-clause-alone
 returns-in_err-made_text-clause-alone g c = alone_twice c.in_ok-plan.ensures.looks.looks.alone c.in_ok-fid.ensures.alone
 
+pub returns-in_err-made_text-clause-frame : goal.returns-in_err-made_text-clause-frame
+returns-in_err-made_text-clause-frame g c = usable_looked c.in_ok-plan.ensures.looks.looks c.in_ok-fid.ensures.alone c.in_ok-fid.ensures.frame
+
 pub returns-clause-alone : goal.returns-clause-alone
 returns-clause-alone g c = alone_twice c.in_ok-plan.ensures.looks.looks.alone c.in_ok-fid.ensures.alone
+
+pub returns-clause-frame : goal.returns-clause-frame
+returns-clause-frame g c = usable_looked c.in_ok-plan.ensures.looks.looks c.in_ok-fid.ensures.alone c.in_ok-fid.ensures.frame
 
 -- ---- the steps
 pub returns-in_err-fid-clause-turns : goal.returns-in_err-fid-clause-turns
@@ -132,6 +143,9 @@ returns-in_err-plan-clause-cause g c = cause_passed (g.D.Tape.tape c.args.disk.n
 
 pub returns-in_err-plan-clause-alone : goal.returns-in_err-plan-clause-alone
 returns-in_err-plan-clause-alone g c = c.in_err-plan.ensures.looks.looks.alone
+
+pub returns-in_err-plan-clause-frame : goal.returns-in_err-plan-clause-frame
+returns-in_err-plan-clause-frame g c = usable_looks c.in_err-plan.ensures.looks.looks
 
 pub returns-in_err-fid-clause-unwritten : goal.returns-in_err-fid-clause-unwritten
 returns-in_err-fid-clause-unwritten g c = λ told. refused_of_stop Fid (λ r. added (g.D.Tape.tape c.plan_copy.new.disk) (g.D.Tape.tape c.apply_copy.new.disk) ≡ []) (λ r. added (g.D.Tape.tape c.args.disk.now) (g.D.Tape.tape c.apply_copy.new.disk) ≡ []) c.in_err-fid.field-0.0 c.from_residual-in_err-fid.result c.from_residual-in_err-fid.ensures.1

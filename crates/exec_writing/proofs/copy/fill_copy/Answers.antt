@@ -1,16 +1,17 @@
 use Rattle.std.proofs.Common.{Result, ℕ, [], false, true, ◌<◌, ◌==◌, ◌≡◌, ◌∙◌, arith, length, subst, sym, ◌∷◌, refl}
 use Rattle.std.proofs.lemmas.Bool.Decides.{nat_tests}
+use Rattle.disk_records.proofs.Framing.{usable_here, usable_twice}
 use Rattle.disk_records.proofs.Growing.{alone_twice, alone_here}
 use Rattle.pack_model.specs.operations.Step.Operation.{stamp}
 use Rattle.session_model.specs.Effects.{copied_ops}
 use Rattle.exec_session.proofs.Stopping.{error_is}
 use Rattle.exec_session.specs.Meant.{kept}
 use Rattle.exec_session.specs.declared.stop.Stop.{Stop}
-use Rattle.exec_session.specs.Midway.{StepsOn}
+use Rattle.exec_steps.specs.Midway.{StepsOn}
 use Rattle.exec_writing.proofs.Required.{shape_worked, sized_worked}
 use Rattle.exec_writing.proofs.Copying.{filling_ends, growing_stops, nothing_fills}
 use Rattle.exec_session.proofs.Causing.{cause_sooner}
-use Rattle.exec_session.proofs.Frames.{cause_passed, never_refused, works_twice, works_here}
+use Rattle.exec_steps.proofs.Frames.{cause_passed, never_refused, works_twice, works_here}
 use Rattle.exec_writing.proofs.copy.fill_copy.Goals as goal
 
 is_zero : (n : ℕ) → (n == 0) ≡ true → n ≡ 0
@@ -38,6 +39,9 @@ returns-in_err-grow_file-clause-steps g c = λ told may.
 pub returns-clause-alone : goal.returns-clause-alone
 returns-clause-alone g c = alone_twice c.grow_file.ensures.alone c.stamp_file.ensures.alone
 
+pub returns-clause-frame : goal.returns-clause-frame
+returns-clause-frame g c = usable_twice c.grow_file.ensures.alone c.stamp_file.ensures.alone c.grow_file.ensures.frame c.stamp_file.ensures.frame
+
 pub returns-clause-steps : goal.returns-clause-steps
 returns-clause-steps g c = λ told may.
     let a = g.D.Tape.tape c.args.disk.now in
@@ -64,6 +68,9 @@ returns-in_err-grow_file-clause-works g c = c.in_err-grow_file.ensures.works
 pub returns-in_err-grow_file-clause-alone : goal.returns-in_err-grow_file-clause-alone
 returns-in_err-grow_file-clause-alone g c = c.in_err-grow_file.ensures.alone
 
+pub returns-in_err-grow_file-clause-frame : goal.returns-in_err-grow_file-clause-frame
+returns-in_err-grow_file-clause-frame g c = c.in_err-grow_file.ensures.frame
+
 pub returns-clause-unrefused : goal.returns-clause-unrefused
 returns-clause-unrefused g c = c.stamp_file.ensures.unrefused
 
@@ -84,6 +91,9 @@ returns-then-is_empty-clause-works g c = works_here c.args.session.now
 
 pub returns-then-is_empty-clause-alone : goal.returns-then-is_empty-clause-alone
 returns-then-is_empty-clause-alone g c = alone_here (g.D.Tape.tape c.args.disk.now)
+
+pub returns-then-is_empty-clause-frame : goal.returns-then-is_empty-clause-frame
+returns-then-is_empty-clause-frame g c = usable_here (g.D.Tape.tape c.args.disk.now)
 
 pub stamp_file-requires-clause-shape : goal.stamp_file-requires-clause-shape
 stamp_file-requires-clause-shape g c = shape_worked (g.D.Tape.tape c.args.disk.now) (g.D.Tape.tape c.grow_file.new.disk) c.in_ok-grow_file.ensures.works c.in_ok-grow_file.ensures.alone c.requires.shape

@@ -1,4 +1,5 @@
 use Rattle.std.proofs.Common.{Err, Ok, Result, ℕ, [], drop, length, take, false, ◌+◌, ◌-◌, ◌∙◌, ap, refl, subst, sym, ◌∷◌, ◌≡◌}
+use Rattle.disk_records.proofs.Framing.{usable_twice}
 use Rattle.alto_words.specs.Fid.{sys_dir}
 use Rattle.alto_words.specs.declared.fid.Fid.{Fid}
 use Rattle.disk_records.proofs.Growing.{alone_twice}
@@ -7,23 +8,29 @@ use Rattle.disk_records.specs.Words.{word}
 use Rattle.page_seeking.specs.declared.refs.FileRef.{FileRef}
 use Rattle.exec_session.proofs.Stopping.{error_is}
 use Rattle.exec_session.specs.Meant.{kept}
-use Rattle.exec_session.specs.Rooms.{pages_planned}
+use Rattle.exec_steps.specs.Rooms.{pages_planned}
 use Rattle.exec_session.specs.declared.stop.Stop.{Stop}
-use Rattle.exec_session.proofs.Joining.{steps_err, steps_ok}
-use Rattle.exec_session.specs.Asked.{made_fid}
-use Rattle.exec_session.specs.Midway.{StepsOn}
+use Rattle.exec_steps.proofs.Joining.{steps_err, steps_ok}
+use Rattle.exec_steps.specs.Asked.{made_fid}
+use Rattle.exec_steps.specs.Midway.{StepsOn}
 use Rattle.exec_writing.specs.Plans.{copied}
 use Rattle.exec_writing.proofs.Required.{shape_worked, sized_worked}
 use Rattle.exec_writing.proofs.Copying.{copy_ends, fills_made, from_there, making_stops}
-use Rattle.exec_session.proofs.Frames.{cause_after, cause_passed, never_refused, works_twice}
+use Rattle.exec_steps.proofs.Frames.{cause_after, cause_passed, never_refused, works_twice}
 use Rattle.exec_session.proofs.Parts.{ok_of_error}
 use Rattle.exec_writing.proofs.copy.write_copy.Goals as goal
 
 pub returns-in_err-fill_copy-clause-alone : goal.returns-in_err-fill_copy-clause-alone
 returns-in_err-fill_copy-clause-alone g c = alone_twice c.in_ok-file.ensures.alone c.in_err-fill_copy.ensures.alone
 
+pub returns-in_err-fill_copy-clause-frame : goal.returns-in_err-fill_copy-clause-frame
+returns-in_err-fill_copy-clause-frame g c = usable_twice c.in_ok-file.ensures.alone c.in_err-fill_copy.ensures.alone c.in_ok-file.ensures.frame c.in_err-fill_copy.ensures.frame
+
 pub returns-clause-alone : goal.returns-clause-alone
 returns-clause-alone g c = alone_twice c.in_ok-file.ensures.alone c.in_ok-fill_copy.ensures.alone
+
+pub returns-clause-frame : goal.returns-clause-frame
+returns-clause-frame g c = usable_twice c.in_ok-file.ensures.alone c.in_ok-fill_copy.ensures.alone c.in_ok-file.ensures.frame c.in_ok-fill_copy.ensures.frame
 
 pub returns-in_err-file-clause-steps : goal.returns-in_err-file-clause-steps
 returns-in_err-file-clause-steps g c = λ told may.
@@ -95,6 +102,9 @@ returns-in_err-file-clause-works g c = c.in_err-file.ensures.works
 
 pub returns-in_err-file-clause-alone : goal.returns-in_err-file-clause-alone
 returns-in_err-file-clause-alone g c = c.in_err-file.ensures.alone
+
+pub returns-in_err-file-clause-frame : goal.returns-in_err-file-clause-frame
+returns-in_err-file-clause-frame g c = c.in_err-file.ensures.frame
 
 pub returns-in_err-fill_copy-clause-made : goal.returns-in_err-fill_copy-clause-made
 returns-in_err-fill_copy-clause-made g c = ok_of_error (λ s. s ≡ c.in_err-fill_copy.field-0.0) _ c.from_residual-in_err-fill_copy.result c.from_residual-in_err-fill_copy.ensures.1

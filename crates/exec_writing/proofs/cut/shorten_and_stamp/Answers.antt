@@ -1,4 +1,5 @@
 use Rattle.std.proofs.Common.{[], sym, ap, ◌∙◌}
+use Rattle.disk_records.proofs.Framing.{usable_twice}
 use Rattle.disk_records.specs.Addresses.{pages_of}
 use Rattle.disk_records.proofs.Growing.{alone_twice}
 use Rattle.exec_session.specs.Meant.{kept}
@@ -6,7 +7,7 @@ use Rattle.exec_writing.specs.Cutting.{cuts}
 use Rattle.exec_writing.proofs.Cutting.{cuts_stay}
 use Rattle.exec_writing.proofs.Stamping.{stamped_after, unstamped}
 use Rattle.exec_session.proofs.Causing.{cause_sooner}
-use Rattle.exec_session.proofs.Frames.{cause_passed, never_refused, works_twice}
+use Rattle.exec_steps.proofs.Frames.{cause_passed, never_refused, works_twice}
 use Rattle.exec_writing.proofs.cut.shorten_and_stamp.Goals as goal
 
 pub returns-in_err-shorten_file-clause-steps : goal.returns-in_err-shorten_file-clause-steps
@@ -31,6 +32,9 @@ returns-clause-steps g c = λ told may.
 pub returns-clause-alone : goal.returns-clause-alone
 returns-clause-alone g c = alone_twice c.shorten_file.ensures.alone c.stamp_file.ensures.alone
 
+pub returns-clause-frame : goal.returns-clause-frame
+returns-clause-frame g c = usable_twice c.shorten_file.ensures.alone c.stamp_file.ensures.alone c.shorten_file.ensures.frame c.stamp_file.ensures.frame
+
 pub returns-in_err-shorten_file-clause-unrefused : goal.returns-in_err-shorten_file-clause-unrefused
 returns-in_err-shorten_file-clause-unrefused g c = never_refused (Unit {0}) (λ r. ⊥) c.in_err-shorten_file.field-0.0 c.from_residual.result c.from_residual.ensures.1 c.in_err-shorten_file.ensures.unrefused
 
@@ -42,6 +46,9 @@ returns-in_err-shorten_file-clause-works g c = c.in_err-shorten_file.ensures.wor
 
 pub returns-in_err-shorten_file-clause-alone : goal.returns-in_err-shorten_file-clause-alone
 returns-in_err-shorten_file-clause-alone g c = c.in_err-shorten_file.ensures.alone
+
+pub returns-in_err-shorten_file-clause-frame : goal.returns-in_err-shorten_file-clause-frame
+returns-in_err-shorten_file-clause-frame g c = c.in_err-shorten_file.ensures.frame
 
 pub returns-clause-unrefused : goal.returns-clause-unrefused
 returns-clause-unrefused g c = c.stamp_file.ensures.unrefused

@@ -1,4 +1,5 @@
 use Rattle.std.proofs.Common.{List, Ok, Result, [], arith, refl, subst, sym, ◌∙◌, ◌∷◌}
+use Rattle.disk_records.proofs.Framing.{usable_here}
 use Rattle.disk_records.specs.Tapes.{added, pack}
 use Rattle.exec_session.specs.laws_call.specs.Acting.{around}
 use Rattle.pack_model.specs.operations.Step.Operation.{cut}
@@ -6,16 +7,17 @@ use Rattle.pack_model.specs.operations.Step.{Operation}
 use Rattle.exec_session.specs.Meant.{kept, IfRefused}
 use Rattle.exec_session.specs.Stops.{stop_written, cause_of_stop}
 use Rattle.exec_session.specs.declared.stop.Stop.{Stop}
-use Rattle.exec_session.specs.Midway.{StepsOn}
-use Rattle.exec_session.proofs.StepAnswers.{written_operates, written_unrefused}
-use Rattle.exec_session.proofs.Calling.{hints_step}
-use Rattle.exec_session.proofs.Joining.{step_of_nothing}
+use Rattle.exec_steps.specs.Midway.{StepsOn}
+use Rattle.exec_steps.proofs.StepAnswers.{written_operates, written_unrefused}
+use Rattle.exec_steps.proofs.Calling.{hints_step}
+use Rattle.exec_steps.proofs.Joining.{step_of_nothing}
 use Rattle.exec_writing.specs.Cutting.{cuts}
 use Rattle.exec_writing.proofs.Cutting.{cut_hints, cuts_none, cuts_one}
 use Rattle.exec_writing.proofs.Causing.{put_cause}
 use Rattle.disk_records.specs.Causes.{HasCause}
-use Rattle.exec_session.proofs.Frames.{works_here}
+use Rattle.exec_steps.proofs.Frames.{works_here}
 use Rattle.disk_records.proofs.Growing.{alone_here}
+use Rattle.exec_session.proofs.Framing.{usable_pages}
 use Rattle.exec_writing.proofs.cut.shorten_file.Goals as goal
 
 pub returns-then-length-found-clause-steps : goal.returns-then-length-found-clause-steps
@@ -54,13 +56,16 @@ pub returns-clause-cause : goal.returns-clause-cause
 returns-clause-cause g c = subst (λ (r : Result (Unit {0}) Stop). HasCause cause_of_stop (g.D.Tape.tape c.args.disk.now) (g.D.Tape.tape c.cut-shortened.new.disk) r) (sym c.written.ensures) (put_cause (g.D.Tape.tape c.args.disk.now) (g.D.Tape.tape c.cut-shortened.new.disk) c.args.found.now.file c.cut-shortened.result c.cut-shortened.ensures.cause)
 
 pub returns-clause-works : goal.returns-clause-works
-returns-clause-works g c = record { shape = refl; sized = c.cut-shortened.ensures.sized; moment = refl; level = refl; memory = refl; need = refl; refused = c.cut-shortened.ensures.refused }
+returns-clause-works g c = record { shape = refl; sized = c.cut-shortened.ensures.sized; moment = refl; world = refl; streams = refl; need = refl; refused = c.cut-shortened.ensures.refused }
 
 pub returns-clause-descriptor : goal.returns-clause-descriptor
 returns-clause-descriptor g c = refl
 
 pub returns-clause-alone : goal.returns-clause-alone
 returns-clause-alone g c = c.cut-shortened.ensures.alone
+
+pub returns-clause-frame : goal.returns-clause-frame
+returns-clause-frame g c = usable_pages c.args.found.now.file.fid c.cut-shortened.ensures.alone c.cut-shortened.ensures.frame
 
 pub returns-then-length-found-clause-unrefused : goal.returns-then-length-found-clause-unrefused
 returns-then-length-found-clause-unrefused g c = tt
@@ -76,3 +81,6 @@ returns-then-length-found-clause-descriptor g c = refl
 
 pub returns-then-length-found-clause-alone : goal.returns-then-length-found-clause-alone
 returns-then-length-found-clause-alone g c = alone_here (g.D.Tape.tape c.args.disk.now)
+
+pub returns-then-length-found-clause-frame : goal.returns-then-length-found-clause-frame
+returns-then-length-found-clause-frame g c = usable_here (g.D.Tape.tape c.args.disk.now)

@@ -1,4 +1,5 @@
 use Rattle.std.proofs.Common.{[], ◌∷◌, sym, ap, ◌∙◌}
+use Rattle.disk_records.proofs.Framing.{usable_twice}
 use Rattle.disk_records.specs.Addresses.{pages_of}
 use Rattle.disk_records.proofs.Growing.{alone_twice}
 use Rattle.exec_session.specs.Meant.{kept}
@@ -6,7 +7,7 @@ use Rattle.exec_writing.specs.Cutting.{cuts_and_stamps}
 use Rattle.exec_writing.proofs.Cutting.{cut_opens}
 use Rattle.exec_writing.proofs.Opening.{opening_fails}
 use Rattle.exec_session.proofs.Causing.{cause_sooner}
-use Rattle.exec_session.proofs.Frames.{cause_passed, never_refused, works_twice}
+use Rattle.exec_steps.proofs.Frames.{cause_passed, never_refused, works_twice}
 use Rattle.exec_writing.proofs.cut.write_cut.Goals as goal
 
 pub returns-in_err-open_mark-clause-writes : goal.returns-in_err-open_mark-clause-writes
@@ -32,6 +33,9 @@ returns-clause-writes g c = λ told may.
 pub returns-clause-alone : goal.returns-clause-alone
 returns-clause-alone g c = alone_twice c.open_mark.ensures.alone c.shorten_and_stamp.ensures.alone
 
+pub returns-clause-frame : goal.returns-clause-frame
+returns-clause-frame g c = usable_twice c.open_mark.ensures.alone c.shorten_and_stamp.ensures.alone c.open_mark.ensures.frame c.shorten_and_stamp.ensures.frame
+
 pub returns-in_err-open_mark-clause-unrefused : goal.returns-in_err-open_mark-clause-unrefused
 returns-in_err-open_mark-clause-unrefused g c = never_refused (Unit {0}) (λ r. ⊥) c.in_err-open_mark.field-0.0 c.from_residual.result c.from_residual.ensures.1 c.in_err-open_mark.ensures.unrefused
 
@@ -43,6 +47,9 @@ returns-in_err-open_mark-clause-works g c = c.in_err-open_mark.ensures.works
 
 pub returns-in_err-open_mark-clause-alone : goal.returns-in_err-open_mark-clause-alone
 returns-in_err-open_mark-clause-alone g c = c.in_err-open_mark.ensures.alone
+
+pub returns-in_err-open_mark-clause-frame : goal.returns-in_err-open_mark-clause-frame
+returns-in_err-open_mark-clause-frame g c = c.in_err-open_mark.ensures.frame
 
 pub returns-clause-unrefused : goal.returns-clause-unrefused
 returns-clause-unrefused g c = c.shorten_and_stamp.ensures.unrefused

@@ -1,4 +1,5 @@
 use Rattle.std.proofs.Common.{Bool, Contains, Err, List, Result, [], arith, refl, subst, sym, ◌∷◌, ◌∙◌, ap, length}
+use Rattle.disk_records.proofs.Framing.{usable_twice}
 use Rattle.disk_records.proofs.Growing.{alone_twice}
 use Rattle.disk_records.specs.Tapes.{added, pack}
 use Rattle.exec_session.specs.laws_call.specs.Acting.{Operates, around}
@@ -9,14 +10,15 @@ use Rattle.exec_session.specs.Meant.{IfHint, kept, IfRefused}
 use Rattle.exec_session.specs.Stops.{stop_entered, cause_of_stop}
 use Rattle.exec_session.specs.declared.stop.Stop.{Stop}
 use Rattle.exec_session.specs.declared.stop.Stop.TheVariants as stop
-use Rattle.exec_session.specs.Midway.{StepsOn}
-use Rattle.exec_session.proofs.StepAnswers.{entered_cause, entered_unrefused, error_is, written_cause, written_unrefused}
-use Rattle.exec_session.proofs.Calling.{hints_step}
+use Rattle.exec_steps.specs.Midway.{StepsOn}
+use Rattle.exec_steps.proofs.StepAnswers.{entered_cause, entered_unrefused, error_is, written_cause, written_unrefused}
+use Rattle.exec_steps.proofs.Calling.{hints_step}
 use Rattle.exec_writing.proofs.EntryFound.{found_by}
 use Rattle.exec_writing.proofs.OneDrop.{dir_left, drop_breaks, drop_ends, file_hints, slot_hints, went, whole_left}
 use Rattle.exec_session.proofs.Causing.{cause_sooner}
-use Rattle.exec_session.proofs.Frames.{cause_passed, never_refused}
+use Rattle.exec_steps.proofs.Frames.{cause_passed, never_refused}
 use Rattle.disk_records.specs.Causes.{HasCause, never, other}
+use Rattle.exec_session.proofs.Framing.{usable_pages}
 use Rattle.exec_writing.proofs.dropping.drop_found.Goals as goal
 
 pub returns-in_err-written-clause-steps : goal.returns-in_err-written-clause-steps
@@ -71,6 +73,9 @@ returns-clause-steps g c = λ told may.
 pub returns-clause-alone : goal.returns-clause-alone
 returns-clause-alone g c = alone_twice c.drop_file-dropped.ensures.alone c.free_slot-freed.ensures.alone
 
+pub returns-clause-frame : goal.returns-clause-frame
+returns-clause-frame g c = usable_twice c.drop_file-dropped.ensures.alone c.free_slot-freed.ensures.alone (usable_pages c.args.found.now.file.fid c.drop_file-dropped.ensures.alone c.drop_file-dropped.ensures.frame) (usable_pages c.args.found.now.dir.fid c.free_slot-freed.ensures.alone c.free_slot-freed.ensures.frame)
+
 pub returns-in_err-written-clause-unrefused : goal.returns-in_err-written-clause-unrefused
 returns-in_err-written-clause-unrefused g c = never_refused (Unit {0}) (λ r. ⊥) c.in_err-written.field-0.0 c.from_residual.result c.from_residual.ensures.1 (subst (λ (r : Result (Unit {0}) Stop). IfRefused r (λ x. ⊥)) (sym c.in_err-written.ensures) (written_unrefused c.args.found.now.file c.drop_file-dropped.result))
 
@@ -79,13 +84,16 @@ returns-in_err-written-clause-cause g c =
     cause_passed (g.D.Tape.tape c.args.disk.now) (g.D.Tape.tape c.drop_file-dropped.new.disk) c.in_err-written.field-0.0 c.from_residual.result c.from_residual.ensures.1 (subst (λ (r : Result (Unit {0}) Stop). HasCause cause_of_stop (g.D.Tape.tape c.args.disk.now) (g.D.Tape.tape c.drop_file-dropped.new.disk) r) (sym c.in_err-written.ensures) (written_cause (g.D.Tape.tape c.args.disk.now) (g.D.Tape.tape c.drop_file-dropped.new.disk) c.args.found.now.file c.drop_file-dropped.result c.drop_file-dropped.ensures.cause))
 
 pub returns-in_err-written-clause-works : goal.returns-in_err-written-clause-works
-returns-in_err-written-clause-works g c = let e = c.drop_file-dropped.ensures in record { shape = refl; sized = e.sized; moment = refl; level = refl; memory = refl; need = refl; refused = e.refused }
+returns-in_err-written-clause-works g c = let e = c.drop_file-dropped.ensures in record { shape = refl; sized = e.sized; moment = refl; world = refl; streams = refl; need = refl; refused = e.refused }
 
 pub returns-in_err-written-clause-descriptor : goal.returns-in_err-written-clause-descriptor
 returns-in_err-written-clause-descriptor g c = refl
 
 pub returns-in_err-written-clause-alone : goal.returns-in_err-written-clause-alone
 returns-in_err-written-clause-alone g c = c.drop_file-dropped.ensures.alone
+
+pub returns-in_err-written-clause-frame : goal.returns-in_err-written-clause-frame
+returns-in_err-written-clause-frame g c = usable_pages c.args.found.now.file.fid c.drop_file-dropped.ensures.alone c.drop_file-dropped.ensures.frame
 
 pub returns-clause-unrefused : goal.returns-clause-unrefused
 returns-clause-unrefused g c = subst (λ (r : Result (Unit {0}) Stop). IfRefused r (λ x. ⊥)) (sym c.entered.ensures) (entered_unrefused c.args.found.now.dir c.free_slot-freed.result)
@@ -102,7 +110,7 @@ returns-clause-works g c =
     let two = c.free_slot-freed.ensures in
     let first = one.refused in
     let next = two.refused in
-    record { shape = refl; sized = ap length two.table ∙ one.sized; moment = refl; level = refl; memory = refl; need = refl; refused = omega (arith, first, next) }
+    record { shape = refl; sized = ap length two.table ∙ one.sized; moment = refl; world = refl; streams = refl; need = refl; refused = omega (arith, first, next) }
 
 pub returns-clause-descriptor : goal.returns-clause-descriptor
 returns-clause-descriptor g c = refl

@@ -1,4 +1,5 @@
 use Rattle.std.proofs.Common.{◌+◌, false, sym, ap, ◌∙◌, [], ◌≡◌}
+use Rattle.disk_records.proofs.Framing.{usable_looks}
 use Rattle.disk_records.proofs.Growing.{alone_twice, silent_twice}
 use Rattle.disk_records.proofs.Looking.{looks_pack}
 use Rattle.disk_records.specs.Tapes.{pack, added}
@@ -6,16 +7,17 @@ use Rattle.exec_words.specs.Texts.{made_text}
 use Rattle.exec_words.specs.declared.line.Line.TheVariants as line
 use Rattle.session_model.specs.Keeping.{world_of}
 use Rattle.exec_session.specs.Meant.{kept}
-use Rattle.exec_session.specs.declared.rooms.NewEntry.{NewEntry}
-use Rattle.exec_session.specs.Asked.{made_fid}
+use Rattle.exec_steps.specs.declared.rooms.NewEntry.{NewEntry}
+use Rattle.exec_steps.specs.Asked.{made_fid}
 use Rattle.exec_writing.proofs.Ends.{begins_last, planning_stops, text_missing, writing_done, writing_stops}
-use Rattle.exec_session.proofs.Frames.{stays_worked, works_looked, works_twice, cause_after, cause_passed, if_refused, never_refused}
+use Rattle.exec_steps.proofs.Frames.{stays_worked, works_looked, works_twice, cause_after, cause_passed, if_refused, never_refused}
 use Rattle.exec_writing.proofs.NamedEntries.{make_adds_there, make_on}
 use Rattle.exec_session.proofs.TakingUp.{typed_line}
 use Rattle.exec_session.proofs.LookedBefore.{same_count}
 use Rattle.alto_words.specs.declared.fid.Fid.{Fid}
 use Rattle.exec_session.proofs.Stopping.{refused_of_stop}
 use Rattle.exec_session.specs.declared.stop.Stop.TheVariants as stop
+use Rattle.exec_session.proofs.Framing.{usable_looked}
 use Rattle.exec_writing.proofs.make.make_file.Goals as goal
 
 pub plan_make-requires : goal.plan_make-requires
@@ -84,11 +86,20 @@ returns-clause-stays g c = stays_worked (g.D.Tape.tape c.args.disk.now) (g.D.Tap
 pub returns-in_err-fid-clause-alone : goal.returns-in_err-fid-clause-alone
 returns-in_err-fid-clause-alone g c = alone_twice c.in_ok-entry.ensures.looks.looks.alone c.in_err-fid.ensures.alone
 
+pub returns-in_err-fid-clause-frame : goal.returns-in_err-fid-clause-frame
+returns-in_err-fid-clause-frame g c = usable_looked c.in_ok-entry.ensures.looks.looks c.in_err-fid.ensures.alone c.in_err-fid.ensures.frame
+
 pub returns-in_err-made_text-clause-alone : goal.returns-in_err-made_text-clause-alone
 returns-in_err-made_text-clause-alone g c = alone_twice c.in_ok-entry.ensures.looks.looks.alone c.in_ok-fid.ensures.alone
 
+pub returns-in_err-made_text-clause-frame : goal.returns-in_err-made_text-clause-frame
+returns-in_err-made_text-clause-frame g c = usable_looked c.in_ok-entry.ensures.looks.looks c.in_ok-fid.ensures.alone c.in_ok-fid.ensures.frame
+
 pub returns-clause-alone : goal.returns-clause-alone
 returns-clause-alone g c = alone_twice c.in_ok-entry.ensures.looks.looks.alone c.in_ok-fid.ensures.alone
+
+pub returns-clause-frame : goal.returns-clause-frame
+returns-clause-frame g c = usable_looked c.in_ok-entry.ensures.looks.looks c.in_ok-fid.ensures.alone c.in_ok-fid.ensures.frame
 
 pub returns-in_err-entry-clause-unwritten : goal.returns-in_err-entry-clause-unwritten
 returns-in_err-entry-clause-unwritten g c = λ told. if_refused (added (g.D.Tape.tape c.args.disk.now) (g.D.Tape.tape c.plan_make.new.disk) ≡ []) c.from_residual.result (c.in_err-entry.ensures.looks.looks.silent told)
@@ -98,6 +109,9 @@ returns-in_err-entry-clause-cause g c = cause_passed (g.D.Tape.tape c.args.disk.
 
 pub returns-in_err-entry-clause-alone : goal.returns-in_err-entry-clause-alone
 returns-in_err-entry-clause-alone g c = c.in_err-entry.ensures.looks.looks.alone
+
+pub returns-in_err-entry-clause-frame : goal.returns-in_err-entry-clause-frame
+returns-in_err-entry-clause-frame g c = usable_looks c.in_err-entry.ensures.looks.looks
 
 pub returns-in_err-fid-clause-unwritten : goal.returns-in_err-fid-clause-unwritten
 returns-in_err-fid-clause-unwritten g c = λ told. refused_of_stop Fid (λ r. added (g.D.Tape.tape c.plan_make.new.disk) (g.D.Tape.tape c.add_file.new.disk) ≡ []) (λ r. added (g.D.Tape.tape c.args.disk.now) (g.D.Tape.tape c.add_file.new.disk) ≡ []) c.in_err-fid.field-0.0 c.from_residual-in_err-fid.result c.from_residual-in_err-fid.ensures.1

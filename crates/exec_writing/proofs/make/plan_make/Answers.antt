@@ -23,12 +23,12 @@ use Rattle.exec_session.proofs.Stopping.{error_is, hint_of_stop, refused_as, ref
 use Rattle.exec_session.specs.Found.{IsDirOf, IsNoDirOf, root_ref}
 use Rattle.exec_session.specs.Meant.{IfHint, IfRefused}
 use Rattle.exec_session.specs.NewNames.{IsTaken}
-use Rattle.exec_session.specs.declared.rooms.NewEntry.{NewEntry}
+use Rattle.exec_steps.specs.declared.rooms.NewEntry.{NewEntry}
 use Rattle.exec_session.specs.declared.stop.Stop.{Stop}
-use Rattle.exec_session.proofs.Stepping.{if_hint_weaker}
+use Rattle.exec_steps.proofs.Stepping.{if_hint_weaker}
 use Rattle.exec_writing.specs.Entries.{IsNewEntry, OperandsRefuse, PlansPath}
 use Rattle.exec_writing.proofs.Adding.{root_stands, touched_pair}
-use Rattle.exec_session.proofs.Frames.{looks_about_within, cause_passed}
+use Rattle.exec_steps.proofs.Frames.{looks_about_within, cause_passed}
 use Rattle.exec_writing.proofs.NamedEntries.{dir_stands, failing_more, make_absent, make_found, path_touches, root_touched, root_touches}
 use Rattle.exec_writing.proofs.NewSectors.{refused_then}
 use Rattle.exec_session.proofs.Causing.{cause_refused, cause_sooner, not_wanted, not_wanted_refused}

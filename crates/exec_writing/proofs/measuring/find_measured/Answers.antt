@@ -21,7 +21,7 @@ use Rattle.exec_session.proofs.Stopping.{hint_of_stop, refused_of_stop}
 use Rattle.exec_writing.proofs.Touching.{follows_file, handy_front, handy_of}
 use Rattle.exec_session.proofs.Causing.{not_wanted}
 use Rattle.exec_session.proofs.Parts.{ok_of_error}
-use Rattle.exec_session.proofs.Frames.{cause_after, cause_passed, looks_about_within, never_refused}
+use Rattle.exec_steps.proofs.Frames.{cause_after, cause_passed, looks_about_within, never_refused}
 use Rattle.exec_writing.proofs.measuring.find_measured.Goals as goal
 
 pub returns-in_err-file-clause-misled : goal.returns-in_err-file-clause-misled

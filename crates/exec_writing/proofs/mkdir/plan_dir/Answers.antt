@@ -17,13 +17,13 @@ use Rattle.exec_session.proofs.Looking.{looks_about_twice}
 use Rattle.exec_session.proofs.Stopping.{hint_of_stop, refused_of_stop}
 use Rattle.exec_session.specs.Found.{root_ref}
 use Rattle.exec_session.specs.Meant.{IfHint}
-use Rattle.exec_session.specs.Rooms.{IsPlanned}
-use Rattle.exec_session.specs.declared.rooms.NewEntry.{NewEntry}
+use Rattle.exec_steps.specs.Rooms.{IsPlanned}
+use Rattle.exec_steps.specs.declared.rooms.NewEntry.{NewEntry}
 use Rattle.exec_session.specs.declared.stop.Stop.{Stop}
-use Rattle.exec_session.proofs.Stepping.{if_hint_weaker}
+use Rattle.exec_steps.proofs.Stepping.{if_hint_weaker}
 use Rattle.exec_writing.specs.Entries.{OperandsRefuse, PlansDir}
 use Rattle.exec_writing.proofs.Adding.{root_stands, touched_pair}
-use Rattle.exec_session.proofs.Frames.{looks_about_within, cause_passed}
+use Rattle.exec_steps.proofs.Frames.{looks_about_within, cause_passed}
 use Rattle.exec_writing.proofs.NamedEntries.{failing_more, make_dir_operand, root_touched}
 use Rattle.exec_writing.proofs.NewSectors.{refused_then}
 use Rattle.exec_session.proofs.Causing.{cause_sooner, not_wanted}

@@ -19,11 +19,11 @@ use Rattle.exec_session.proofs.Stopping.{hint_of_stop, refused_of_stop}
 use Rattle.exec_session.specs.Found.{root_ref}
 use Rattle.exec_session.specs.Meant.{IfHint}
 use Rattle.exec_session.specs.NewNames.{IsGiven, IsTaken}
-use Rattle.exec_session.specs.Rooms.{IsPlanned}
-use Rattle.exec_session.specs.declared.rooms.NewEntry.{NewEntry}
+use Rattle.exec_steps.specs.Rooms.{IsPlanned}
+use Rattle.exec_steps.specs.declared.rooms.NewEntry.{NewEntry}
 use Rattle.exec_session.specs.declared.stop.Stop.{Stop}
 use Rattle.exec_writing.specs.Entries.{IsNewEntry}
-use Rattle.exec_session.proofs.Frames.{looks_about_within, cause_passed}
+use Rattle.exec_steps.proofs.Frames.{looks_about_within, cause_passed}
 use Rattle.exec_writing.proofs.NewSectors.{refused_then}
 use Rattle.exec_session.proofs.Causing.{cause_sooner, not_wanted}
 use Rattle.exec_session.proofs.Parts.{ok_of_error}

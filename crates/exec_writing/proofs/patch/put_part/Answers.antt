@@ -7,15 +7,16 @@ use Rattle.exec_session.specs.Meant.{kept, IfRefused}
 use Rattle.exec_session.specs.Stops.{stop_written, cause_of_stop}
 use Rattle.exec_session.specs.declared.stop.Stop.{Stop}
 use Rattle.exec_session.proofs.Stopping.{error_is}
-use Rattle.exec_session.specs.Midway.{StepsOn}
-use Rattle.exec_session.proofs.StepAnswers.{misled_silent, written_operates, written_unrefused}
-use Rattle.exec_session.proofs.Calling.{hints_step}
-use Rattle.exec_session.proofs.Joining.{steps_err, steps_ok}
+use Rattle.exec_steps.specs.Midway.{StepsOn}
+use Rattle.exec_steps.proofs.StepAnswers.{misled_silent, written_operates, written_unrefused}
+use Rattle.exec_steps.proofs.Calling.{hints_step}
+use Rattle.exec_steps.proofs.Joining.{steps_err, steps_ok}
 use Rattle.exec_writing.proofs.Putting.{part_is, put_hints}
 use Rattle.exec_session.proofs.Parts.{ok_of_error}
 use Rattle.exec_writing.proofs.Causing.{put_cause}
-use Rattle.exec_session.proofs.Frames.{cause_passed, never_refused}
+use Rattle.exec_steps.proofs.Frames.{cause_passed, never_refused}
 use Rattle.disk_records.specs.Causes.{HasCause}
+use Rattle.exec_session.proofs.Framing.{usable_pages}
 use Rattle.exec_writing.proofs.patch.put_part.Goals as goal
 
 pub returns-in_err-written-clause-steps : goal.returns-in_err-written-clause-steps
@@ -80,13 +81,16 @@ returns-in_err-written-clause-cause g c =
     cause_passed (g.D.Tape.tape c.args.disk.now) (g.D.Tape.tape c.put-done.new.disk) c.in_err-written.field-0.0 c.from_residual.result c.from_residual.ensures.1 (subst (λ (r : Result (Unit {0}) Stop). HasCause cause_of_stop (g.D.Tape.tape c.args.disk.now) (g.D.Tape.tape c.put-done.new.disk) r) (sym c.in_err-written.ensures) (put_cause (g.D.Tape.tape c.args.disk.now) (g.D.Tape.tape c.put-done.new.disk) c.args.file.now c.put-done.result c.put-done.ensures.cause))
 
 pub returns-in_err-written-clause-works : goal.returns-in_err-written-clause-works
-returns-in_err-written-clause-works g c = let e = c.put-done.ensures in record { shape = refl; sized = ap length e.table; moment = refl; level = refl; memory = refl; need = refl; refused = e.refused }
+returns-in_err-written-clause-works g c = let e = c.put-done.ensures in record { shape = refl; sized = ap length e.table; moment = refl; world = refl; streams = refl; need = refl; refused = e.refused }
 
 pub returns-in_err-written-clause-descriptor : goal.returns-in_err-written-clause-descriptor
 returns-in_err-written-clause-descriptor g c = refl
 
 pub returns-in_err-written-clause-alone : goal.returns-in_err-written-clause-alone
 returns-in_err-written-clause-alone g c = c.put-done.ensures.alone
+
+pub returns-in_err-written-clause-frame : goal.returns-in_err-written-clause-frame
+returns-in_err-written-clause-frame g c = usable_pages c.args.file.now.fid c.put-done.ensures.alone c.put-done.ensures.frame
 
 pub returns-clause-unrefused : goal.returns-clause-unrefused
 returns-clause-unrefused g c = tt
@@ -95,13 +99,16 @@ pub returns-clause-cause : goal.returns-clause-cause
 returns-clause-cause g c = subst (λ (r : Result (Unit {0}) Stop). HasCause cause_of_stop (g.D.Tape.tape c.args.disk.now) (g.D.Tape.tape c.put-done.new.disk) r) (sym c.in_ok-written.ensures) (put_cause (g.D.Tape.tape c.args.disk.now) (g.D.Tape.tape c.put-done.new.disk) c.args.file.now c.put-done.result c.put-done.ensures.cause)
 
 pub returns-clause-works : goal.returns-clause-works
-returns-clause-works g c = let e = c.put-done.ensures in record { shape = refl; sized = ap length e.table; moment = refl; level = refl; memory = refl; need = refl; refused = e.refused }
+returns-clause-works g c = let e = c.put-done.ensures in record { shape = refl; sized = ap length e.table; moment = refl; world = refl; streams = refl; need = refl; refused = e.refused }
 
 pub returns-clause-descriptor : goal.returns-clause-descriptor
 returns-clause-descriptor g c = refl
 
 pub returns-clause-alone : goal.returns-clause-alone
 returns-clause-alone g c = c.put-done.ensures.alone
+
+pub returns-clause-frame : goal.returns-clause-frame
+returns-clause-frame g c = usable_pages c.args.file.now.fid c.put-done.ensures.alone c.put-done.ensures.frame
 
 pub returns-clause-many : goal.returns-clause-many
 returns-clause-many g c = c.min-count.ensures

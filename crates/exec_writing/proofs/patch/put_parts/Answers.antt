@@ -1,4 +1,5 @@
 use Rattle.std.proofs.Common.{◌≡◌, ◌∙◌, ◌+◌, ◌-◌, ◌%◌, ◌∷◌, ℕ, List, [], Ok, Err, Result, length, length-drop, min, take, drop, ap, arith, subst, sym, refl}
+use Rattle.disk_records.proofs.Framing.{usable_here, usable_twice}
 use Rattle.disk_records.proofs.Growing.{alone_here, alone_twice}
 use Rattle.disk_records.specs.Tapes.{pack}
 use Rattle.pack_model.specs.operations.Step.Operation.{put}
@@ -6,15 +7,16 @@ use Rattle.session_model.specs.Streams.{puts}
 use Rattle.exec_session.specs.Meant.{kept}
 use Rattle.exec_session.specs.declared.stop.Stop.{Stop}
 use Rattle.exec_session.proofs.Stopping.{error_is}
-use Rattle.exec_session.specs.Midway.{StepsOn}
+use Rattle.exec_steps.specs.Midway.{StepsOn}
 use Rattle.exec_writing.specs.Patching.{MayPatchFile}
-use Rattle.exec_session.proofs.Frames.{works_here, works_twice, cause_after, never_refused}
+use Rattle.exec_steps.proofs.Frames.{works_here, works_twice, cause_after, never_refused}
 use Rattle.exec_writing.proofs.Putting.{none_put, puts_end, puts_more, puts_stop, tail_is}
 use Rattle.exec_writing.proofs.patch.put_parts.Goals as goal
 
 pub loop-done-init : goal.loop-done-init
 loop-done-init g c = record {
   within = omega arith;
+  frame = usable_here (g.D.Tape.tape c.args.disk.now);
   alone = alone_here (g.D.Tape.tape c.args.disk.now);
   unfailed = refl;
   works = works_here c.args.session.now;
@@ -42,6 +44,7 @@ loop-done-preserved g c =
     let before = so.within in
     record {
       within = omega (arith, many, left, before);
+      frame = usable_twice so.alone e.alone so.frame e.frame;
       alone = alone_twice so.alone e.alone;
       unfailed = e.cause ∙ so.unfailed;
       works = works_twice so.works e.works;
@@ -69,6 +72,9 @@ returns-in_err-done-clause-steps g c = λ told may.
 pub returns-in_err-done-clause-alone : goal.returns-in_err-done-clause-alone
 returns-in_err-done-clause-alone g c = alone_twice c.loop-done.invariant.alone c.put_part.ensures.alone
 
+pub returns-in_err-done-clause-frame : goal.returns-in_err-done-clause-frame
+returns-in_err-done-clause-frame g c = usable_twice c.loop-done.invariant.alone c.put_part.ensures.alone c.loop-done.invariant.frame c.put_part.ensures.frame
+
 pub returns-clause-steps : goal.returns-clause-steps
 returns-clause-steps g c = λ told may.
     puts_end (g.D.Tape.tape c.args.disk.now) (g.D.Tape.tape c.loop-done.disk) (kept c.args.session.now) (kept c.loop-done.session) c.args.file.now c.args.offset c.args.bytes.now c.loop-done.done c.loop-done-test.false (c.loop-done.invariant.puts told may)
@@ -93,3 +99,6 @@ returns-clause-works g c = c.loop-done.invariant.works
 
 pub returns-clause-alone : goal.returns-clause-alone
 returns-clause-alone g c = c.loop-done.invariant.alone
+
+pub returns-clause-frame : goal.returns-clause-frame
+returns-clause-frame g c = c.loop-done.invariant.frame

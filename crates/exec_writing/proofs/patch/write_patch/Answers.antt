@@ -1,11 +1,12 @@
 use Rattle.std.proofs.Common.{[], ◌∷◌}
+use Rattle.disk_records.proofs.Framing.{usable_twice}
 use Rattle.disk_records.proofs.Growing.{alone_twice}
 use Rattle.session_model.specs.Streams.{puts}
 use Rattle.exec_session.specs.Meant.{kept}
 use Rattle.exec_writing.proofs.Opening.{opening_fails}
 use Rattle.exec_writing.proofs.Patching.{patch_opens}
 use Rattle.exec_session.proofs.Causing.{cause_sooner}
-use Rattle.exec_session.proofs.Frames.{cause_passed, never_refused, works_twice}
+use Rattle.exec_steps.proofs.Frames.{cause_passed, never_refused, works_twice}
 use Rattle.exec_writing.proofs.patch.write_patch.Goals as goal
 
 pub returns-in_err-open_mark-clause-writes : goal.returns-in_err-open_mark-clause-writes
@@ -29,6 +30,9 @@ returns-clause-writes g c = λ told may some.
 pub returns-clause-alone : goal.returns-clause-alone
 returns-clause-alone g c = alone_twice c.open_mark.ensures.alone c.put_parts.ensures.alone
 
+pub returns-clause-frame : goal.returns-clause-frame
+returns-clause-frame g c = usable_twice c.open_mark.ensures.alone c.put_parts.ensures.alone c.open_mark.ensures.frame c.put_parts.ensures.frame
+
 pub returns-in_err-open_mark-clause-unrefused : goal.returns-in_err-open_mark-clause-unrefused
 returns-in_err-open_mark-clause-unrefused g c = never_refused (Unit {0}) (λ r. ⊥) c.in_err-open_mark.field-0.0 c.from_residual.result c.from_residual.ensures.1 c.in_err-open_mark.ensures.unrefused
 
@@ -40,6 +44,9 @@ returns-in_err-open_mark-clause-works g c = c.in_err-open_mark.ensures.works
 
 pub returns-in_err-open_mark-clause-alone : goal.returns-in_err-open_mark-clause-alone
 returns-in_err-open_mark-clause-alone g c = c.in_err-open_mark.ensures.alone
+
+pub returns-in_err-open_mark-clause-frame : goal.returns-in_err-open_mark-clause-frame
+returns-in_err-open_mark-clause-frame g c = c.in_err-open_mark.ensures.frame
 
 pub returns-clause-unrefused : goal.returns-clause-unrefused
 returns-clause-unrefused g c = c.put_parts.ensures.unrefused

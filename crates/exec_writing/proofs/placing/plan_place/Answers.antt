@@ -20,11 +20,11 @@ use Rattle.exec_session.proofs.Stopping.{error_is, hint_of_stop, refused_as, ref
 use Rattle.exec_session.specs.Found.{IsNoDirOf, dirs_followed}
 use Rattle.exec_session.specs.Meant.{IfHint}
 use Rattle.exec_session.specs.NewNames.{IsTaken}
-use Rattle.exec_session.proofs.Stepping.{if_hint_weaker}
+use Rattle.exec_steps.proofs.Stepping.{if_hint_weaker}
 use Rattle.exec_writing.specs.Entries.{IsNewEntry}
 use Rattle.exec_writing.specs.Plans.{kinds_refusal, place_refusal}
 use Rattle.exec_writing.proofs.Adding.{root_stands}
-use Rattle.exec_session.proofs.Frames.{looks_about_within, cause_passed}
+use Rattle.exec_steps.proofs.Frames.{looks_about_within, cause_passed}
 use Rattle.exec_writing.proofs.NewSectors.{refused_then}
 use Rattle.exec_writing.proofs.NamedEntries.{dir_stands}
 use Rattle.exec_writing.proofs.NewPlaces.{if_ok_then, is_placed, kinds_pass, name_refuses, passed_by, place_absent, place_there, refused_by}

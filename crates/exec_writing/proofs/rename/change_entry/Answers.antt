@@ -1,14 +1,15 @@
 use Rattle.std.proofs.Common.{Result, [], subst, sym, ◌∷◌, ◌∙◌}
+use Rattle.disk_records.proofs.Framing.{usable_twice}
 use Rattle.disk_records.proofs.Growing.{alone_twice}
 use Rattle.exec_session.proofs.Stopping.{error_is}
 use Rattle.exec_session.specs.Meant.{kept}
 use Rattle.exec_session.specs.declared.stop.Stop.{Stop}
-use Rattle.exec_session.specs.Midway.{StepsOn}
+use Rattle.exec_steps.specs.Midway.{StepsOn}
 use Rattle.exec_writing.specs.Plans.{changed_entry}
 use Rattle.exec_writing.proofs.Required.{shape_worked, sized_worked}
 use Rattle.exec_writing.proofs.Renaming.{entry_changes, leaving_stops}
 use Rattle.exec_session.proofs.Causing.{cause_sooner}
-use Rattle.exec_session.proofs.Frames.{cause_passed, never_refused, works_twice}
+use Rattle.exec_steps.proofs.Frames.{cause_passed, never_refused, works_twice}
 use Rattle.exec_writing.proofs.rename.change_entry.Goals as goal
 
 pub returns-in_err-leave_dir-clause-steps : goal.returns-in_err-leave_dir-clause-steps
@@ -23,6 +24,9 @@ returns-in_err-leave_dir-clause-steps g c = λ told may.
 
 pub returns-clause-alone : goal.returns-clause-alone
 returns-clause-alone g c = alone_twice c.leave_dir.ensures.alone c.enter_file.ensures.alone
+
+pub returns-clause-frame : goal.returns-clause-frame
+returns-clause-frame g c = usable_twice c.leave_dir.ensures.alone c.enter_file.ensures.alone c.leave_dir.ensures.frame c.enter_file.ensures.frame
 
 pub returns-clause-steps : goal.returns-clause-steps
 returns-clause-steps g c = λ told may.
@@ -45,6 +49,9 @@ returns-in_err-leave_dir-clause-descriptor g c = c.in_err-leave_dir.ensures.desc
 
 pub returns-in_err-leave_dir-clause-alone : goal.returns-in_err-leave_dir-clause-alone
 returns-in_err-leave_dir-clause-alone g c = c.in_err-leave_dir.ensures.alone
+
+pub returns-in_err-leave_dir-clause-frame : goal.returns-in_err-leave_dir-clause-frame
+returns-in_err-leave_dir-clause-frame g c = c.in_err-leave_dir.ensures.frame
 
 pub returns-clause-unrefused : goal.returns-clause-unrefused
 returns-clause-unrefused g c = c.enter_file.ensures.unrefused

@@ -6,10 +6,11 @@ use Rattle.pack_model.specs.operations.Step.Operation.{leave}
 use Rattle.exec_session.specs.Meant.{kept, IfRefused}
 use Rattle.exec_session.specs.Stops.{stop_entered, cause_of_stop}
 use Rattle.exec_session.specs.declared.stop.Stop.{Stop}
-use Rattle.exec_session.specs.Midway.{StepsOn}
-use Rattle.exec_session.proofs.StepAnswers.{entered_cause, entered_hints, entered_operates, entered_unrefused, misled_quiet}
-use Rattle.exec_session.proofs.Calling.{hints_step, in_one}
+use Rattle.exec_steps.specs.Midway.{StepsOn}
+use Rattle.exec_steps.proofs.StepAnswers.{entered_cause, entered_hints, entered_operates, entered_unrefused, misled_quiet}
+use Rattle.exec_steps.proofs.Calling.{hints_step, in_one}
 use Rattle.exec_writing.proofs.Leaving.{leaving_cause, leaving_roomy, leaving_untaken, never_absent, ordinary_entry}
+use Rattle.exec_session.proofs.Framing.{usable_pages}
 use Rattle.exec_writing.proofs.rename.leave_dir.Goals as goal
 
 pub returns-clause-steps : goal.returns-clause-steps
@@ -37,10 +38,13 @@ pub returns-clause-cause : goal.returns-clause-cause
 returns-clause-cause g c = subst (λ (r : Result (Unit {0}) Stop). HasCause cause_of_stop (g.D.Tape.tape c.args.disk.now) (g.D.Tape.tape c.leave-left.new.disk) r) (sym c.entered.ensures) (entered_cause other never never tt tt tt (g.D.Tape.tape c.args.disk.now) (g.D.Tape.tape c.leave-left.new.disk) c.args.found.now.dir c.leave-left.result c.leave-left.ensures.cause)
 
 pub returns-clause-works : goal.returns-clause-works
-returns-clause-works g c = record { shape = refl; sized = ap length c.leave-left.ensures.table; moment = refl; level = refl; memory = refl; need = refl; refused = c.leave-left.ensures.refused }
+returns-clause-works g c = record { shape = refl; sized = ap length c.leave-left.ensures.table; moment = refl; world = refl; streams = refl; need = refl; refused = c.leave-left.ensures.refused }
 
 pub returns-clause-descriptor : goal.returns-clause-descriptor
 returns-clause-descriptor g c = refl
 
 pub returns-clause-alone : goal.returns-clause-alone
 returns-clause-alone g c = c.leave-left.ensures.alone
+
+pub returns-clause-frame : goal.returns-clause-frame
+returns-clause-frame g c = usable_pages c.args.found.now.dir.fid c.leave-left.ensures.alone c.leave-left.ensures.frame

@@ -16,10 +16,10 @@ use Rattle.exec_session.proofs.Looking.{looks_about_twice}
 use Rattle.exec_session.proofs.Stopping.{hint_of_stop, refused_of_stop}
 use Rattle.exec_session.specs.Found.{IsNoneAt, dirs_followed}
 use Rattle.exec_session.specs.declared.operands.Found.{Found}
-use Rattle.exec_session.specs.declared.rooms.NewEntry.{NewEntry}
+use Rattle.exec_steps.specs.declared.rooms.NewEntry.{NewEntry}
 use Rattle.exec_writing.specs.Entries.{OperandsRefuse}
 use Rattle.exec_writing.specs.Plans.{IsPlaced, place_refusal}
-use Rattle.exec_session.proofs.Frames.{looks_about_within, cause_after, cause_passed, never_refused}
+use Rattle.exec_steps.proofs.Frames.{looks_about_within, cause_after, cause_passed, never_refused}
 use Rattle.exec_writing.proofs.NamedEntries.{failing_more}
 use Rattle.exec_writing.proofs.NewPlaces.{names_place, names_source, names_source_dirs}
 use Rattle.exec_writing.proofs.Refusing.{source_absent, source_found}

@@ -1,15 +1,16 @@
 use Rattle.std.proofs.Common.{Result, [], subst, sym, ◌∷◌, ◌∙◌}
+use Rattle.disk_records.proofs.Framing.{usable_twice}
 use Rattle.alto_words.specs.Fid.{sys_dir}
 use Rattle.disk_records.proofs.Growing.{alone_twice}
 use Rattle.exec_session.proofs.Stopping.{error_is}
 use Rattle.exec_session.specs.Meant.{kept}
 use Rattle.exec_session.specs.declared.stop.Stop.{Stop}
-use Rattle.exec_session.specs.Midway.{StepsOn}
+use Rattle.exec_steps.specs.Midway.{StepsOn}
 use Rattle.exec_writing.specs.Plans.{renamed}
 use Rattle.exec_writing.proofs.Required.{shape_worked, sized_worked}
 use Rattle.exec_writing.proofs.Renaming.{pages_stop, rename_ends, title_stops}
 use Rattle.exec_session.proofs.Causing.{cause_sooner}
-use Rattle.exec_session.proofs.Frames.{cause_after, cause_passed, never_refused, works_twice}
+use Rattle.exec_steps.proofs.Frames.{cause_after, cause_passed, never_refused, works_twice}
 use Rattle.exec_writing.proofs.rename.rename_entry.Goals as goal
 
 pub returns-in_err-widen_first-clause-steps : goal.returns-in_err-widen_first-clause-steps
@@ -40,8 +41,14 @@ returns-in_err-title_file-clause-steps g c = λ told may.
 pub returns-in_err-title_file-clause-alone : goal.returns-in_err-title_file-clause-alone
 returns-in_err-title_file-clause-alone g c = alone_twice c.widen_first.ensures.alone c.title_file.ensures.alone
 
+pub returns-in_err-title_file-clause-frame : goal.returns-in_err-title_file-clause-frame
+returns-in_err-title_file-clause-frame g c = usable_twice c.widen_first.ensures.alone c.title_file.ensures.alone c.widen_first.ensures.frame c.title_file.ensures.frame
+
 pub returns-clause-alone : goal.returns-clause-alone
 returns-clause-alone g c = alone_twice c.widen_first.ensures.alone (alone_twice c.title_file.ensures.alone c.change_entry.ensures.alone)
+
+pub returns-clause-frame : goal.returns-clause-frame
+returns-clause-frame g c = usable_twice c.widen_first.ensures.alone (alone_twice c.title_file.ensures.alone c.change_entry.ensures.alone) c.widen_first.ensures.frame (usable_twice c.title_file.ensures.alone c.change_entry.ensures.alone c.title_file.ensures.frame c.change_entry.ensures.frame)
 
 pub returns-clause-steps : goal.returns-clause-steps
 returns-clause-steps g c = λ told may.
@@ -69,6 +76,9 @@ returns-in_err-widen_first-clause-descriptor g c = c.in_err-widen_first.ensures.
 
 pub returns-in_err-widen_first-clause-alone : goal.returns-in_err-widen_first-clause-alone
 returns-in_err-widen_first-clause-alone g c = c.in_err-widen_first.ensures.alone
+
+pub returns-in_err-widen_first-clause-frame : goal.returns-in_err-widen_first-clause-frame
+returns-in_err-widen_first-clause-frame g c = c.in_err-widen_first.ensures.frame
 
 pub returns-in_err-title_file-clause-unrefused : goal.returns-in_err-title_file-clause-unrefused
 returns-in_err-title_file-clause-unrefused g c = never_refused (Unit {0}) (λ r. ⊥) c.in_err-title_file.field-0.0 c.from_residual-in_err-title_file.result c.from_residual-in_err-title_file.ensures.1 c.in_err-title_file.ensures.unrefused

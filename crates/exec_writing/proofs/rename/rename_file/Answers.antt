@@ -1,4 +1,5 @@
 use Rattle.std.proofs.Common.{◌≡◌, subst, sym, [], ◌∙◌}
+use Rattle.disk_records.proofs.Framing.{usable_looks}
 use Rattle.disk_records.proofs.Growing.{alone_twice, silent_twice}
 use Rattle.disk_records.proofs.Looking.{looks_pack}
 use Rattle.disk_records.specs.Tapes.{Taped, pack, added}
@@ -13,13 +14,14 @@ use Rattle.exec_session.specs.Turned.{Begins}
 use Rattle.exec_writing.specs.Plans.{IsRenaming}
 use Rattle.exec_writing.specs.declared.rename.Renaming.{Renaming}
 use Rattle.exec_writing.proofs.Ends.{begins_sound, planning_stops, text_missing, writing_done, writing_stops}
-use Rattle.exec_session.proofs.Frames.{stays_worked, works_looked, works_twice, cause_after, cause_passed, if_refused, never_refused}
+use Rattle.exec_steps.proofs.Frames.{stays_worked, works_looked, works_twice, cause_after, cause_passed, if_refused, never_refused}
 use Rattle.exec_session.proofs.TakingUp.{typed_line}
 use Rattle.exec_writing.proofs.Refusing.{both}
 use Rattle.exec_writing.proofs.Sorts.{rename_on}
 use Rattle.exec_session.proofs.LookedBefore.{same_count}
 use Rattle.exec_session.proofs.Stopping.{refused_of_stop}
 use Rattle.exec_session.specs.declared.stop.Stop.TheVariants as stop
+use Rattle.exec_session.proofs.Framing.{usable_looked}
 use Rattle.exec_writing.proofs.rename.rename_file.Goals as goal
 
 -- what is planned, on the pack that is as it was
@@ -52,11 +54,20 @@ apply_rename-requires-clause-sized g c = (stays_worked (g.D.Tape.tape c.args.dis
 pub returns-in_err-apply_rename-clause-alone : goal.returns-in_err-apply_rename-clause-alone
 returns-in_err-apply_rename-clause-alone g c = alone_twice c.in_ok-plan.ensures.looks.looks.alone c.in_err-apply_rename.ensures.alone
 
+pub returns-in_err-apply_rename-clause-frame : goal.returns-in_err-apply_rename-clause-frame
+returns-in_err-apply_rename-clause-frame g c = usable_looked c.in_ok-plan.ensures.looks.looks c.in_err-apply_rename.ensures.alone c.in_err-apply_rename.ensures.frame
+
 pub returns-in_err-done_text-clause-alone : goal.returns-in_err-done_text-clause-alone
 returns-in_err-done_text-clause-alone g c = alone_twice c.in_ok-plan.ensures.looks.looks.alone c.in_ok-apply_rename.ensures.alone
 
+pub returns-in_err-done_text-clause-frame : goal.returns-in_err-done_text-clause-frame
+returns-in_err-done_text-clause-frame g c = usable_looked c.in_ok-plan.ensures.looks.looks c.in_ok-apply_rename.ensures.alone c.in_ok-apply_rename.ensures.frame
+
 pub returns-clause-alone : goal.returns-clause-alone
 returns-clause-alone g c = alone_twice c.in_ok-plan.ensures.looks.looks.alone c.in_ok-apply_rename.ensures.alone
+
+pub returns-clause-frame : goal.returns-clause-frame
+returns-clause-frame g c = usable_looked c.in_ok-plan.ensures.looks.looks c.in_ok-apply_rename.ensures.alone c.in_ok-apply_rename.ensures.frame
 
 -- ---- the steps
 pub returns-in_err-apply_rename-clause-turns : goal.returns-in_err-apply_rename-clause-turns
@@ -128,6 +139,9 @@ returns-in_err-plan-clause-cause g c = cause_passed (g.D.Tape.tape c.args.disk.n
 
 pub returns-in_err-plan-clause-alone : goal.returns-in_err-plan-clause-alone
 returns-in_err-plan-clause-alone g c = c.in_err-plan.ensures.looks.looks.alone
+
+pub returns-in_err-plan-clause-frame : goal.returns-in_err-plan-clause-frame
+returns-in_err-plan-clause-frame g c = usable_looks c.in_err-plan.ensures.looks.looks
 
 pub returns-in_err-apply_rename-clause-unwritten : goal.returns-in_err-apply_rename-clause-unwritten
 returns-in_err-apply_rename-clause-unwritten g c = λ told. refused_of_stop (Unit {0}) (λ r. added (g.D.Tape.tape c.plan_rename.new.disk) (g.D.Tape.tape c.apply_rename.new.disk) ≡ []) (λ r. added (g.D.Tape.tape c.args.disk.now) (g.D.Tape.tape c.apply_rename.new.disk) ≡ []) c.in_err-apply_rename.field-0.0 c.from_residual-in_err-apply_rename.result c.from_residual-in_err-apply_rename.ensures.1

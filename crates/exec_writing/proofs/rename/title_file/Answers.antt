@@ -5,10 +5,11 @@ use Rattle.pack_model.specs.operations.Step.Operation.{title}
 use Rattle.exec_session.specs.Meant.{kept, IfRefused}
 use Rattle.exec_session.specs.Stops.{stop_written, cause_of_stop}
 use Rattle.exec_session.specs.declared.stop.Stop.{Stop}
-use Rattle.exec_session.specs.Midway.{StepsOn}
-use Rattle.exec_session.proofs.StepAnswers.{misled_silent, written_cause, written_hints, written_operates, written_unrefused}
-use Rattle.exec_session.proofs.Calling.{hints_step, in_one}
+use Rattle.exec_steps.specs.Midway.{StepsOn}
+use Rattle.exec_steps.proofs.StepAnswers.{misled_silent, written_cause, written_hints, written_operates, written_unrefused}
+use Rattle.exec_steps.proofs.Calling.{hints_step, in_one}
 use Rattle.disk_records.specs.Causes.{HasCause}
+use Rattle.exec_session.proofs.Framing.{usable_pages}
 use Rattle.exec_writing.proofs.rename.title_file.Goals as goal
 
 pub returns-clause-steps : goal.returns-clause-steps
@@ -33,10 +34,13 @@ pub returns-clause-cause : goal.returns-clause-cause
 returns-clause-cause g c = subst (λ (r : Result (Unit {0}) Stop). HasCause cause_of_stop (g.D.Tape.tape c.args.disk.now) (g.D.Tape.tape c.title-titled.new.disk) r) (sym c.written.ensures) (written_cause (g.D.Tape.tape c.args.disk.now) (g.D.Tape.tape c.title-titled.new.disk) c.args.plan.now.found.file c.title-titled.result c.title-titled.ensures.cause)
 
 pub returns-clause-works : goal.returns-clause-works
-returns-clause-works g c = record { shape = refl; sized = ap length c.title-titled.ensures.table; moment = refl; level = refl; memory = refl; need = refl; refused = c.title-titled.ensures.refused }
+returns-clause-works g c = record { shape = refl; sized = ap length c.title-titled.ensures.table; moment = refl; world = refl; streams = refl; need = refl; refused = c.title-titled.ensures.refused }
 
 pub returns-clause-descriptor : goal.returns-clause-descriptor
 returns-clause-descriptor g c = refl
 
 pub returns-clause-alone : goal.returns-clause-alone
 returns-clause-alone g c = c.title-titled.ensures.alone
+
+pub returns-clause-frame : goal.returns-clause-frame
+returns-clause-frame g c = usable_pages c.args.plan.now.found.file.fid c.title-titled.ensures.alone c.title-titled.ensures.frame

@@ -8,10 +8,10 @@ use Rattle.session_model.specs.Refusals.{most_serials}
 use Rattle.exec_session.proofs.Causing.{cause_refused}
 use Rattle.exec_session.proofs.OrdinaryFiles.{by_test, ok_test}
 use Rattle.exec_session.proofs.Parts.{ok_of_error}
-use Rattle.exec_session.proofs.SectorTaking.{on_err}
+use Rattle.exec_steps.proofs.SectorTaking.{on_err}
 use Rattle.exec_session.proofs.Stopping.{error_is, refused_as}
 use Rattle.exec_session.specs.Meant.{IfHint}
-use Rattle.exec_session.specs.Rooms.{pages_planned}
+use Rattle.exec_steps.specs.Rooms.{pages_planned}
 use Rattle.exec_writing.proofs.NewPlaces.{if_ok_then}
 use Rattle.exec_writing.proofs.NewSectors.{below_most, full_refused, nothing_refused, on_ok, refused_then, serials_spent}
 use Rattle.exec_writing.proofs.Required.{asked_most, reserved_asked}

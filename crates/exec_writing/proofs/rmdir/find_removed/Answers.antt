@@ -16,7 +16,7 @@ use Rattle.exec_session.specs.Meant.{IfHint, IfRefused, kept}
 use Rattle.exec_writing.specs.Dropping.{HasEntries}
 use Rattle.exec_writing.proofs.DropFinding.{is_directory_found, rmdir_absent, rmdir_entries, rmdir_found, rmdir_no_directory, rmdir_system, test_refused, unfound, unlisted}
 use Rattle.exec_session.proofs.Causing.{cause_refused}
-use Rattle.exec_session.proofs.Frames.{cause_after, cause_passed, looks_about_within}
+use Rattle.exec_steps.proofs.Frames.{cause_after, cause_passed, looks_about_within}
 use Rattle.exec_writing.proofs.rmdir.find_removed.Goals as goal
 
 pub returns-in_err-found-clause-finds : goal.returns-in_err-found-clause-finds

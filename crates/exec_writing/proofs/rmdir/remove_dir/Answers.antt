@@ -1,12 +1,14 @@
 use Rattle.std.proofs.Common.{[], ◌≡◌, sym}
+use Rattle.disk_records.proofs.Framing.{usable_looks}
 use Rattle.disk_records.proofs.Growing.{alone_twice}
 use Rattle.exec_words.specs.declared.line.Line.TheVariants as line
 use Rattle.exec_session.proofs.Looking.{stays_looked}
 use Rattle.exec_writing.proofs.DropAnswers.{goes_on_found, rmdir_drops, stops_unfound}
-use Rattle.exec_session.proofs.Frames.{stays_worked, works_looked, works_twice, cause_passed, if_refused}
+use Rattle.exec_steps.proofs.Frames.{stays_worked, works_looked, works_twice, cause_passed, if_refused}
 use Rattle.disk_records.specs.Tapes.{added}
 use Rattle.exec_session.proofs.Causing.{cause_sooner}
 use Rattle.exec_writing.proofs.Causing.{refuses_none}
+use Rattle.exec_session.proofs.Framing.{usable_looked}
 use Rattle.exec_writing.proofs.rmdir.remove_dir.Goals as goal
 
 pub returns-in_err-found-clause-turns : goal.returns-in_err-found-clause-turns
@@ -20,7 +22,7 @@ returns-clause-turns g c = λ told.
     (rmdir_drops c.args.name.now) told c.requires.obeys c.find_removed.ensures.looks c.drop_line.ensures.alone
     (g.met.D.Disk.formed c.find_removed.new.disk told) (g.met.D.Disk.counted c.args.disk.now told) (g.met.D.Disk.counted c.find_removed.new.disk told)
     (c.in_ok-found.ensures.finds told)
-    (λ s begins same drops may. c.drop_line.ensures.turned _ s (line.RemoveDir c.args.name.now) told begins same drops may)
+    (λ s begins formed same drops may. c.drop_line.ensures.turned _ s (line.RemoveDir c.args.name.now) told begins formed same drops may)
 
 pub returns-in_err-found-clause-stays : goal.returns-in_err-found-clause-stays
 returns-in_err-found-clause-stays g c = stays_looked (g.D.Tape.tape c.args.disk.now) (g.D.Tape.tape c.find_removed.new.disk) c.find_removed.ensures.looks.looked c.find_removed.ensures.looks.looks.alone.grown.form c.requires.obeys.formed
@@ -33,6 +35,9 @@ returns-clause-stays g c =
 pub returns-clause-alone : goal.returns-clause-alone
 returns-clause-alone g c = alone_twice c.find_removed.ensures.looks.looks.alone c.drop_line.ensures.alone
 
+pub returns-clause-frame : goal.returns-clause-frame
+returns-clause-frame g c = usable_looked c.find_removed.ensures.looks.looks c.drop_line.ensures.alone c.drop_line.ensures.frame
+
 pub returns-in_err-found-clause-unwritten : goal.returns-in_err-found-clause-unwritten
 returns-in_err-found-clause-unwritten g c = λ told. if_refused (added (g.D.Tape.tape c.args.disk.now) (g.D.Tape.tape c.find_removed.new.disk) ≡ []) c.from_residual.result (c.in_err-found.ensures.looks.looks.silent told)
 
@@ -41,6 +46,9 @@ returns-in_err-found-clause-cause g c = cause_passed (g.D.Tape.tape c.args.disk.
 
 pub returns-in_err-found-clause-alone : goal.returns-in_err-found-clause-alone
 returns-in_err-found-clause-alone g c = c.in_err-found.ensures.looks.looks.alone
+
+pub returns-in_err-found-clause-frame : goal.returns-in_err-found-clause-frame
+returns-in_err-found-clause-frame g c = usable_looks c.in_err-found.ensures.looks.looks
 
 pub returns-clause-unwritten : goal.returns-clause-unwritten
 returns-clause-unwritten g c = λ told. refuses_none (λ r. added (g.D.Tape.tape c.args.disk.now) (g.D.Tape.tape c.drop_line.new.disk) ≡ []) c.drop_line.result c.drop_line.ensures.unrefused

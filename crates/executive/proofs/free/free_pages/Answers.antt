@@ -4,7 +4,7 @@ use Rattle.exec_words.specs.Texts.{free_text}
 use Rattle.exec_words.specs.declared.line.Line.TheVariants as line
 use Rattle.pack_model.specs.reading.Model.{read_as}
 use Rattle.exec_session.specs.Meant.{replied}
-use Rattle.exec_session.proofs.SectorTaking.{free_room}
+use Rattle.exec_writing.specs.exec_steps.proofs.SectorTaking.{free_room}
 use Rattle.exec_session.proofs.TakingUp.{few_none}
 use Rattle.executive.proofs.Answering.{free_reads, passes_memory, reading_turns}
 use Rattle.executive.proofs.Passing.{looks_alone, uncounted}

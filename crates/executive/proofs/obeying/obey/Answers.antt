@@ -1,12 +1,13 @@
 use Rattle.std.proofs.Common.{◌≡◌, [], refl, sym, ap, ◌∙◌}
 use Rattle.exec_words.specs.Built.{as_built}
+use Rattle.disk_records.proofs.Framing.{usable_here}
 use Rattle.disk_records.proofs.Growing.{alone_here, nothing_added}
 use Rattle.disk_records.specs.Tapes.{added}
 use Rattle.exec_session.specs.Meant.{kept}
 use Rattle.session_model.specs.Keeping.{world_of}
 use Rattle.session_model.specs.Refusals.{by_line}
 use Rattle.exec_session.proofs.Stopping.{stopped_unscavenged}
-use Rattle.executive.proofs.FirstRefusals.{as_built_turns, first_of, may_obey, not_quit, stop_cause, stop_turns}
+use Rattle.exec_session.proofs.FirstRefusals.{as_built_turns, first_of, may_obey, not_quit, stop_cause, stop_turns}
 use Rattle.executive.proofs.Limits.{answered_cause, answered_formed, answered_turns, answered_unscavenged, by_model_unwritten, limit_stays, stopped_formed, stopped_limit}
 use Rattle.executive.proofs.obeying.obey.Goals as goal
 
@@ -36,6 +37,9 @@ returns-in-Err-clause-formed g c = stopped_formed (g.D.Tape.tape c.args.disk.now
 pub returns-in-Err-clause-alone : goal.returns-in-Err-clause-alone
 returns-in-Err-clause-alone g c = alone_here (g.D.Tape.tape c.args.disk.now)
 
+pub returns-in-Err-clause-frame : goal.returns-in-Err-clause-frame
+returns-in-Err-clause-frame g c = usable_here (g.D.Tape.tape c.args.disk.now)
+
 pub obey_line-done-requires : goal.obey_line-done-requires
 obey_line-done-requires g c =
     let may = may_obey (g.D.Tape.tape c.args.disk.now) c.args.session.now c.args.line.now c.in-Ok.field-0 c.requires.formed (sym c.in-Ok.is ∙ c.refuse_line.ensures) in
@@ -62,6 +66,9 @@ returns-in-Quit-clause-cause g c = c.quit.ensures.cause
 pub returns-in-Quit-clause-alone : goal.returns-in-Quit-clause-alone
 returns-in-Quit-clause-alone g c = c.quit.ensures.alone
 
+pub returns-in-Quit-clause-frame : goal.returns-in-Quit-clause-frame
+returns-in-Quit-clause-frame g c = c.quit.ensures.frame
+
 pub returns-in_default : goal.returns-in_default
 returns-in_default g c =
     let a = g.D.Tape.tape c.args.disk.now in
@@ -80,5 +87,6 @@ returns-in_default g c =
       limit = ap (λ k. k.tally.limit) c.answer.ensures.kept ∙ limit_stays done limit (kept two) ∙ c.limit_of-limit.ensures;
       formed = answered_formed b.form done limit (kept two) (kept c.answer.new.session) c.obey_line-done.ensures.formed c.answer.ensures.kept;
       cause = answered_cause a b done c.answer.result c.answer.ensures.reply c.obey_line-done.ensures.cause;
+      frame = c.obey_line-done.ensures.frame;
       alone = c.obey_line-done.ensures.alone;
     }

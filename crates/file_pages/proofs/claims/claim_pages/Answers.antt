@@ -6,7 +6,6 @@ use Rattle.disk_records.specs.Addresses.{pages_of}
 use Rattle.disk_records.specs.Tapes.{added, pack}
 use Rattle.disk_records.specs.declared.records.Place.TheVariants.{Held}
 use Rattle.disk_records.specs.declared.shape.Shape.{Shape}
-use Rattle.label_check.specs.Guarded.{IsFree}
 use Rattle.pack_model.specs.operations.Commands.{claims_of, claims_writes}
 use Rattle.file_pages.specs.Growing.{IsSector, WasGivenToGrow}
 use Rattle.file_pages.proofs.ClaimRow.{Midway, fits_next, midway_begins, midway_breaks_off, midway_ends, midway_goes_on, next_is_free, same_claim_label}
@@ -87,7 +86,7 @@ returns-in-Err-clause-misled g c told can =
     let x = subst (λ (l : List ℕ). Midway whole (2 * length c.args.fresh.now) a b c.args.fid c.loop-at.before c.loop-at.previous c.loop-at.left.now c.args.past.now l) c.in-Some.ensures.cases.0 (inv.midway told can) in
     let fits = fits_next (pack b) c.loop-at.before c.loop-at.left.now c.args.past.now at later x.can in
     let free = next_is_free whole (2 * length c.args.fresh.now) a b d c.args.fid c.loop-at.before c.loop-at.previous c.loop-at.left.now c.args.past.now at later inv.alone c.claim_page.ensures.alone x in
-    never_misled (IsFree at) at b d c.in-Err.error (Held at) at _ c.error_at.result c.error_at.ensures (c.in-Err.ensures.guarded told fits).wrong free
+    never_misled (λ p. IsFreeSector p at) at b d c.in-Err.error (Held at) at _ c.error_at.result c.error_at.ensures (c.in-Err.ensures.guarded told fits).wrong free
 
 pub returns-in-Err-clause-cause : goal.returns-in-Err-clause-cause
 returns-in-Err-clause-cause g c =

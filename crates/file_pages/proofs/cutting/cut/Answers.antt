@@ -1,4 +1,4 @@
-use Rattle.std.proofs.Common.{Bool, List, OnOk, arith, false, refl, subst, ◌≡◌, ◌≤◌, Err, [], ◌⊎◌, ℕ, inl, inr, Some, ap, sym, ◌∙◌}
+use Rattle.std.proofs.Common.{Bool, List, OnOk, arith, false, refl, subst, ◌+◌, ◌*◌, ◌≡◌, ◌≤◌, Err, [], ◌⊎◌, ℕ, inl, inr, Some, ap, sym, ◌∙◌}
 use Rattle.disk_records.proofs.Growing.{alone_twice, grown_twice}
 use Rattle.disk_records.proofs.Looking.{looks_pack}
 use Rattle.disk_records.specs.Tapes.{pack, added}
@@ -11,7 +11,7 @@ use Rattle.file_pages.proofs.CommitFirst.{look_before}
 use Rattle.file_pages.proofs.CutFiles.{cut_begun, cut_here, cut_is_at_the_end, cut_is_past, cut_is_within, far_past, fewer_pages, known_read}
 use Rattle.file_pages.proofs.Erring.{memory_too, own_or_found}
 use Rattle.file_pages.proofs.Going.{handy_still, misled_by}
-use Rattle.file_pages.specs.Cutting.{IsRead, cutting, uncut}
+use Rattle.file_pages.specs.Cutting.{IsRead, cutting, later_pages, uncut}
 use Rattle.file_pages.specs.Releasing.{AreAfter, Forgotten, KeepsOrFrees}
 use Rattle.pack_model.specs.operations.Committing.{page_of_byte}
 use Rattle.page_seeking.proofs.TrueLinks.{never_led}
@@ -256,3 +256,54 @@ returns-else-info-bytes-2-clause-cuts g c later told other left =
     let table = subst (λ (l : List Bool). OnOk c.end_in_page.result (c.end_in_page.new.hints.table ≡ marked false later l)) c.locate.ensures.table (c.end_in_page.ensures.table (pack a) later told same read left_here) in
     cutting ((c.in-Ok-locate.ensures.stands told).carries ∙ ap (λ k. Some (page_number fid k)) is)
     (look_before looks.alone.grown c.end_in_page.ensures.alone.grown (looks.silent told) (g.met.D.Disk.counted c.args.disk.now told) (g.met.D.Disk.counted c.locate.new.disk told) writes) table
+
+pub returns-in-Ok-clause-runs : goal.returns-in-Ok-clause-runs
+returns-in-Ok-clause-runs g c told whole = let runs = c.length.ensures.looks.runs told in omega (arith, runs, c.in_default.ensures.none)
+
+pub returns-in-Err-clause-runs : goal.returns-in-Err-clause-runs
+returns-in-Err-clause-runs g c told whole = let runs = c.length.ensures.looks.runs told in omega (arith, runs, c.in_default.ensures.none)
+
+pub returns-then-info-bytes-clause-runs : goal.returns-then-info-bytes-clause-runs
+returns-then-info-bytes-clause-runs g c told whole = let runs = c.locate.ensures.looks.runs told in omega (arith, runs, c.in-Some.ensures.some)
+
+pub returns-then-info-bytes-2-clause-runs : goal.returns-then-info-bytes-2-clause-runs
+returns-then-info-bytes-2-clause-runs g c told whole = let runs = c.locate.ensures.looks.runs told in omega (arith, runs, c.in-Some.ensures.some)
+
+pub returns-in-Err-locate-clause-runs : goal.returns-in-Err-locate-clause-runs
+returns-in-Err-locate-clause-runs g c told whole = let runs = c.locate.ensures.looks.runs told in omega (arith, runs, c.in-Some.ensures.some)
+
+pub returns-then-info-bytes-2-clause-soon : goal.returns-then-info-bytes-2-clause-soon
+returns-then-info-bytes-2-clause-soon g c at told whole listed there =
+    let number = c.in-Some.ensures.some in
+    let runs = c.locate.ensures.soon at told (rw (sym number) at listed) (rw (sym number) at there) in
+    omega (arith, runs)
+
+pub returns-then-info-bytes-2-clause-quick : goal.returns-then-info-bytes-2-clause-quick
+returns-then-info-bytes-2-clause-quick g c told quick = let runs = c.in-Ok-locate.ensures.quick told quick in omega (arith, runs, c.in-Some.ensures.some)
+
+pub returns-else-info-bytes-2-clause-runs : goal.returns-else-info-bytes-2-clause-runs
+returns-else-info-bytes-2-clause-runs g c told whole =
+    let a = pack (g.D.Tape.tape c.args.disk.now) in
+    let read : IsRead a (page_number c.args.file.now.fid c.in-Some.number) c.in-Ok-locate.at c.in-Ok-locate.info c.locate.new.buf = record { seen = c.in-Ok-locate.ensures.seen; stands = c.in-Ok-locate.ensures.stands told } in
+    let found = c.locate.ensures.looks.runs told in
+    let rest = c.end_in_page.ensures.runs a told (looks_pack c.locate.ensures.looks told) read whole in
+    omega (arith, found, rest, c.in-Some.ensures.some)
+
+pub returns-else-info-bytes-2-clause-soon : goal.returns-else-info-bytes-2-clause-soon
+returns-else-info-bytes-2-clause-soon g c at told whole listed there =
+    let a = g.D.Tape.tape c.args.disk.now in
+    let number = c.in-Some.ensures.some in
+    let read : IsRead (pack a) (page_number c.args.file.now.fid c.in-Some.number) c.in-Ok-locate.at c.in-Ok-locate.info c.locate.new.buf = record { seen = c.in-Ok-locate.ensures.seen; stands = c.in-Ok-locate.ensures.stands told } in
+    let found = c.locate.ensures.soon at told (rw (sym number) at listed) (rw (sym number) at there) in
+    let rest = c.end_in_page.ensures.runs (pack a) told (looks_pack c.locate.ensures.looks told) read whole in
+    let few : (g.D.Tape.tape c.end_in_page.new.disk).runs ≤ a.runs + (3 * later_pages (pack a) c.args.file.now.fid c.args.length + 3) = omega (arith, found, rest, number) in
+    on_ok c.end_in_page.result few
+
+pub returns-else-info-bytes-2-clause-quick : goal.returns-else-info-bytes-2-clause-quick
+returns-else-info-bytes-2-clause-quick g c told quick =
+    let a = g.D.Tape.tape c.args.disk.now in
+    let read : IsRead (pack a) (page_number c.args.file.now.fid c.in-Some.number) c.in-Ok-locate.at c.in-Ok-locate.info c.locate.new.buf = record { seen = c.in-Ok-locate.ensures.seen; stands = c.in-Ok-locate.ensures.stands told } in
+    let found = c.in-Ok-locate.ensures.quick told quick in
+    let rest = c.end_in_page.ensures.runs (pack a) told (looks_pack c.locate.ensures.looks told) read quick.whole in
+    let few : (g.D.Tape.tape c.end_in_page.new.disk).runs ≤ a.runs + (page_of_byte c.args.length + (3 * later_pages (pack a) c.args.file.now.fid c.args.length + 3)) = omega (arith, found, rest, c.in-Some.ensures.some) in
+    on_ok c.end_in_page.result few

@@ -1,16 +1,17 @@
-use Rattle.std.proofs.Common.{Err, ap, inl, inr, refl, ◌∙◌, subst}
+use Rattle.std.proofs.Common.{Err, ap, arith, inl, inr, refl, ◌∙◌, subst}
 use Rattle.disk_records.proofs.Growing.{alone_twice}
 use Rattle.disk_records.specs.Labels.{page_of}
 use Rattle.laws_operation.proofs.values.Laws.{label_with_another_count}
 use Rattle.pack_model.specs.hints.Links.{no_link}
 use Rattle.page_seeking.proofs.Erring.{if_misled_map}
 use Rattle.file_pages.proofs.CommitFirst.{commit_broke, releases_after}
-use Rattle.file_pages.proofs.CutFiles.{carries_at, commits_at, follows_shortened}
+use Rattle.file_pages.proofs.CutFiles.{carries_at, commits_at, follows_shortened, known_read}
 use Rattle.disk_records.specs.Packs.{Pack}
 use Rattle.disk_records.specs.Tapes.{pack}
 use Rattle.file_pages.proofs.Gone.{none_gone_twice, relabel_loses_none}
 use Rattle.file_pages.specs.Releasing.{ListsNoneGone}
 use Rattle.file_pages.proofs.Erring.{was_found}
+use Rattle.file_pages.proofs.Remaining.{up_to_end}
 use Rattle.disk_records.proofs.Framing.{page_by_sector, writes_then}
 use Rattle.disk_records.specs.Frames.{IsPageOf}
 use Rattle.file_pages.proofs.Freed.{keeps_bits}
@@ -81,3 +82,16 @@ returns-in-Ok-clause-frame g c told = writes_then (IsPageOf c.args.page.fid) (pa
 
 pub returns-in-Err-clause-bits : goal.returns-in-Err-clause-bits
 returns-in-Err-clause-bits g c told = keeps_bits (pack (g.D.Tape.tape c.shorten.new.disk)) refl
+
+pub returns-in-Ok-clause-runs : goal.returns-in-Ok-clause-runs
+returns-in-Ok-clause-runs g c p told same read whole =
+    let named = ap page_of c.last_label-label.ensures ∙ (label_with_another_count c.args.buf.now.label c.args.page c.args.bytes no_link c.requires.named c.requires.few).0 in
+    let one = c.shorten.ensures.runs told in
+    let rest = c.release_rest.ensures.runs p told (follows_shortened same read c.shorten.ensures.alone.grown named (c.in-Ok.ensures.commits told (carries_at same read))) whole in
+    omega (arith, one, rest)
+
+pub returns-in-Err-clause-runs : goal.returns-in-Err-clause-runs
+returns-in-Err-clause-runs g c p told same read whole =
+    let one = c.shorten.ensures.runs told in
+    let within = up_to_end p c.args.page.fid c.args.page.number c.args.at c.args.info (known_read read) whole in
+    omega (arith, one, within)

@@ -1,4 +1,4 @@
-use Rattle.std.proofs.Common.{Err, Ok, ap, refl, ◌∙◌, ◌≡◌}
+use Rattle.std.proofs.Common.{Err, Ok, ap, arith, refl, ◌∙◌, ◌≡◌}
 use Rattle.disk_records.specs.Packs.{sector_at}
 use Rattle.disk_records.specs.Tapes.{pack}
 use Rattle.disk_records.specs.declared.records.Place.TheVariants.{Held}
@@ -44,3 +44,9 @@ returns-in-Err-clause-frame g c told =
     let a = pack (g.D.Tape.tape c.args.disk.now) in
     let Here = IsPageOf c.args.page.fid a in
     guarded_writes Here (c.relabel-written.ensures.guarded told) (λ carries. relabel_here Here c.args.at (record { number = c.args.page.number; carries = carries }) c.args.label (sector_at a c.args.at).value)
+
+pub returns-in-Ok-clause-runs : goal.returns-in-Ok-clause-runs
+returns-in-Ok-clause-runs g c told = let r = (c.relabel-written.ensures.guarded told).runs in omega (arith, r)
+
+pub returns-in-Err-clause-runs : goal.returns-in-Err-clause-runs
+returns-in-Err-clause-runs g c told = let r = (c.relabel-written.ensures.guarded told).runs in omega (arith, r)

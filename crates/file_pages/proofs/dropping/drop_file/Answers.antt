@@ -1,11 +1,12 @@
-use Rattle.std.proofs.Common.{Bool, List, OnOk, arith, false, subst, ℕ, ◌∷◌, ◌≡◌, Err, [], inl, inr}
+use Rattle.std.proofs.Common.{Bool, List, OnOk, arith, false, refl, subst, ℕ, ◌+◌, ◌*◌, ◌∷◌, ◌≡◌, ◌≤◌, Err, [], inl, inr}
 use Rattle.disk_records.proofs.Growing.{alone_twice, grown_twice}
 use Rattle.disk_records.proofs.Looking.{looks_pack}
 use Rattle.disk_records.specs.Tapes.{pack, added}
 use Rattle.label_check.specs.declared.errors.PageInfo.{PageInfo}
 use Rattle.laws_hint.specs.MapChanges.{marked}
-use Rattle.page_seeking.proofs.Erring.{if_misled_map, on_ok_map}
-use Rattle.page_seeking.specs.Seeking.{page_number}
+use Rattle.page_seeking.proofs.Erring.{if_misled_map, on_ok, on_ok_map}
+use Rattle.page_seeking.specs.Seeking.{file_length, page_number}
+use Rattle.pack_model.specs.operations.Committing.{page_of_byte}
 use Rattle.pack_model.specs.reading.Sights.{sights}
 use Rattle.file_pages.proofs.CommitFirst.{look_before}
 use Rattle.file_pages.proofs.CutFiles.{fewer_pages, known_read}
@@ -128,3 +129,35 @@ returns-in-Ok-clause-drops g c pages told left =
     let table = subst (λ (l : List Bool). OnOk c.drop_pages.result (c.drop_pages.new.hints.table ≡ marked false (c.in-Ok.at ∷ pages) l)) c.locate.ensures.table (c.drop_pages.ensures.table (pack a) pages told same read left) in
     dropping (c.in-Ok.ensures.stands told).carries
     (look_before looks.alone.grown c.drop_pages.ensures.alone.grown (looks.silent told) (g.met.D.Disk.counted c.args.disk.now told) (g.met.D.Disk.counted c.locate.new.disk told) writes) table
+
+pub returns-in-Ok-clause-runs : goal.returns-in-Ok-clause-runs
+returns-in-Ok-clause-runs g c told whole =
+    let a = pack (g.D.Tape.tape c.args.disk.now) in
+    let read : IsRead a (page_number c.args.file.now.fid 0) c.in-Ok.at c.in-Ok.info c.locate.new.buf = record { seen = c.in-Ok.ensures.seen; stands = c.in-Ok.ensures.stands told } in
+    let found = c.locate.ensures.looks.runs told in
+    let rest = c.drop_pages.ensures.runs a told (looks_pack c.locate.ensures.looks told) read whole in
+    omega (arith, found, rest)
+
+pub returns-in-Err-clause-runs : goal.returns-in-Err-clause-runs
+returns-in-Err-clause-runs g c told whole = let found = c.locate.ensures.looks.runs told in omega (arith, found)
+
+pub returns-in-Ok-clause-soon : goal.returns-in-Ok-clause-soon
+returns-in-Ok-clause-soon g c at told whole listed there =
+    let a = pack (g.D.Tape.tape c.args.disk.now) in
+    let read : IsRead a (page_number c.args.file.now.fid 0) c.in-Ok.at c.in-Ok.info c.locate.new.buf = record { seen = c.in-Ok.ensures.seen; stands = c.in-Ok.ensures.stands told } in
+    let found = c.locate.ensures.soon at told listed there in
+    let rest = c.drop_pages.ensures.runs a told (looks_pack c.locate.ensures.looks told) read whole in
+    omega (arith, found, rest)
+
+pub returns-in-Err-clause-soon : goal.returns-in-Err-clause-soon
+returns-in-Err-clause-soon g c at told whole listed there = let found = c.locate.ensures.soon at told listed there in omega (arith, found)
+
+pub returns-in-Ok-clause-quick : goal.returns-in-Ok-clause-quick
+returns-in-Ok-clause-quick g c told quick =
+    let a = g.D.Tape.tape c.args.disk.now in
+    let f = c.args.file.now.fid in
+    let read : IsRead (pack a) (page_number f 0) c.in-Ok.at c.in-Ok.info c.locate.new.buf = record { seen = c.in-Ok.ensures.seen; stands = c.in-Ok.ensures.stands told } in
+    let found = c.in-Ok.ensures.leader told refl quick in
+    let rest = c.drop_pages.ensures.runs (pack a) told (looks_pack c.locate.ensures.looks told) read quick.whole in
+    let few : (g.D.Tape.tape c.drop_pages.new.disk).runs ≤ a.runs + (3 * page_of_byte (file_length (pack a) f) + 3) = omega (arith, found, rest) in
+    on_ok c.drop_pages.result few

@@ -1,4 +1,4 @@
-use Rattle.std.proofs.Common.{Err, List, OnOk, Bool, false, inl, inr, refl, subst, ◌≡◌}
+use Rattle.std.proofs.Common.{Err, List, OnOk, Bool, false, inl, inr, refl, subst, ◌≡◌, arith}
 use Rattle.disk_records.proofs.Growing.{alone_twice}
 use Rattle.laws_hint.specs.MapChanges.{marked}
 use Rattle.page_seeking.proofs.Erring.{if_misled_map, on_ok}
@@ -80,3 +80,12 @@ returns-in-Ok-clause-bits g c told =
 
 pub returns-in-Err-clause-bits : goal.returns-in-Err-clause-bits
 returns-in-Err-clause-bits g c told = keeps_bits (pack (g.D.Tape.tape c.release_leader.new.disk)) refl
+
+pub returns-in-Ok-clause-runs : goal.returns-in-Ok-clause-runs
+returns-in-Ok-clause-runs g c p told same read whole =
+    let one = c.release_leader.ensures.runs told in
+    let rest = c.release_rest.ensures.runs p told (follows_leader same read c.release_leader.ensures.alone.grown (c.in-Ok.ensures.commits told (carries_at same read))) whole in
+    omega (arith, one, rest)
+
+pub returns-in-Err-clause-runs : goal.returns-in-Err-clause-runs
+returns-in-Err-clause-runs g c p told same read whole = let one = c.release_leader.ensures.runs told in omega (arith, one)

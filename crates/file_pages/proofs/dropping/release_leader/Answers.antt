@@ -1,4 +1,4 @@
-use Rattle.std.proofs.Common.{Err, Ok, ap, refl, ◌∙◌, ◌≡◌}
+use Rattle.std.proofs.Common.{Err, Ok, ap, arith, refl, ◌∙◌, ◌≡◌}
 use Rattle.disk_records.specs.declared.records.Place.TheVariants.{Held}
 use Rattle.disk_records.specs.Commands.{ones}
 use Rattle.label_check.specs.Guarded.{Carries}
@@ -48,3 +48,9 @@ pub returns-in-Ok-clause-is_free : goal.returns-in-Ok-clause-is_free
 returns-in-Ok-clause-is_free g c told =
     let done = (rw c.in-Ok.is at (c.release-released.ensures.guarded told)).ok in
     released_free c.args.at c.args.leader c.release-released.ensures.alone.grown done.held done.wrote
+
+pub returns-in-Ok-clause-runs : goal.returns-in-Ok-clause-runs
+returns-in-Ok-clause-runs g c told = let r = (c.release-released.ensures.guarded told).runs in omega (arith, r)
+
+pub returns-in-Err-clause-runs : goal.returns-in-Err-clause-runs
+returns-in-Err-clause-runs g c told = let r = (c.release-released.ensures.guarded told).runs in omega (arith, r)

@@ -11,7 +11,7 @@ use Rattle.page_seeking.proofs.Lasting.{names_end, near_of_last}
 use Rattle.page_seeking.proofs.Listing.{is_listed, listed_since}
 use Rattle.page_seeking.proofs.Parting.{few_bytes}
 use Rattle.page_seeking.specs.Refs.{FileIsFrom, IfMisled, MisledBy}
-use Rattle.page_seeking.specs.Seeking.{NamedNearEnd, QuickCache, page_number}
+use Rattle.page_seeking.specs.Seeking.{page_number}
 use Rattle.page_seeking.specs.declared.ends.LastPage.{LastPage}
 use Rattle.file_pages.proofs.Erring.{never_past}
 use Rattle.file_pages.proofs.FileEnds.{last_is_short, last_of, page_before}
@@ -96,7 +96,7 @@ returns-in-Ok-last_page-clause-looks g c = looks_twice 65640 (looks_twice 54 c.l
 pub returns-in-Err-last_page-clause-looks : goal.returns-in-Err-last_page-clause-looks
 returns-in-Err-last_page-clause-looks g c = looks_twice 65640 (looks_twice 54 c.locate.ensures.looks c.data_page_at.ensures.looks (omega arith)) c.last_page.ensures.looks (omega arith)
 
--- a last page that the leader names is found where it says
+-- a page that the leader names is found where it says
 pub returns-in-Ok-last_page-clause-quick : goal.returns-in-Ok-last_page-clause-quick
 returns-in-Ok-last_page-clause-quick g c told quick last =
     let f = c.args.file.now.fid in
@@ -109,14 +109,13 @@ returns-in-Ok-last_page-clause-quick g c told quick last =
 
 pub returns-in-Ok-last_page-clause-climbs : goal.returns-in-Ok-last_page-clause-climbs
 returns-in-Ok-last_page-clause-climbs g c more told quick near =
-    let p = pack (g.D.Tape.tape c.args.disk.now) in
     let f = c.args.file.now.fid in
-    let same = sym (looks_pack (looks_twice 54 c.locate.ensures.looks c.data_page_at.ensures.looks (omega arith)) told) in
-    let then : QuickCache p f c.locate.new.hints.cache = record { whole = quick.whole; links = quick.links; cached = c.locate.ensures.handy told quick.whole quick.links f quick.cached } in
-    let first = c.in-Ok.ensures.leader told refl quick in
-    let second = c.data_page_at.ensures.looks.runs told in
-    let third = c.in-Ok-last_page.ensures.climbs more told (subst (λ (q : Pack). QuickCache q f c.locate.new.hints.cache) same then) (subst (λ (q : Pack). NamedNearEnd q f more) same near) in
-    omega (arith, first, second, third)
+    let leader = c.locate.new.buf.value in
+    let names = names_end quick.whole (c.in-Ok.ensures.stands told) near in
+    let same = names.number in
+    let some = names.first in
+    let there : carried (pack (g.D.Tape.tape c.locate.new.disk)) (word leader 253) ≡ Some (page_number f (word leader 254)) = ap (λ (q : Pack). carried q (word leader 253)) (looks_pack c.locate.ensures.looks told) ∙ names.carries ∙ ap (λ n. Some (page_number f n)) (sym same) in
+    absurd (c.in-Ok-None.ensures.there told (omega (arith, some, same)) there c.in-Ok-None.field-0-is)
 
 pub returns-in-Ok-last_page-clause-handy : goal.returns-in-Ok-last_page-clause-handy
 returns-in-Ok-last_page-clause-handy g c told =

@@ -14,6 +14,7 @@ use Rattle.file_pages.specs.Growing.{Grew, IsSector, MayBeGrown}
 use Rattle.page_seeking.specs.Seeking.{IsLast}
 use Rattle.file_pages.proofs.Erring.{any_misled, cause_after, memory_too, none_misled}
 use Rattle.file_pages.proofs.FreeSectors.{free_are_sectors}
+use Rattle.file_pages.proofs.GrownEnd.{grown_highest}
 use Rattle.file_pages.proofs.GrownHandy.{grown_handy, named_still}
 use Rattle.file_pages.proofs.GrowthAfter.{nothing_written, written_after}
 use Rattle.file_pages.proofs.LastLabel.{label_says}
@@ -192,6 +193,25 @@ returns-in-Ok-grown-clause-quick g c o told stands may quick named =
     let second = c.grow_pages-grown.ensures.runs o told whole tidy there is may_then in
     omega (arith, first, second)
 
+pub returns-in-Ok-grown-clause-near : goal.returns-in-Ok-grown-clause-near
+returns-in-Ok-grown-clause-near g c o told stands may quick listed =
+    let a = g.D.Tape.tape c.args.disk.now in
+    let b = g.D.Tape.tape c.last_page.new.disk in
+    let d = g.D.Tape.tape c.grow_pages-grown.new.disk in
+    let fid = c.args.file.now.fid in
+    let last = c.in-Ok.last in
+    let looks = c.last_page.ensures.looks in
+    let silent = looks.silent told in
+    let packs : pack a ≡ pack b = sym (pack-silent looks.alone.grown silent) in
+    let whole = subst (λ (p : Pack). Whole p) packs stands.whole in
+    let tidy = subst (λ (p : Pack). Tidy p) packs stands.tidy in
+    let there = subst (λ (p : Pack). Stands p (page_number fid last.number) last.at c.last_page.new.buf) packs (c.in-Ok.ensures.stands told) in
+    let is = subst (λ (p : Pack). IsLast p fid last) packs (c.in-Ok.ensures.last told stands.whole) in
+    let may_then = subst (λ (p : Pack). MayBeGrown p o fid c.args.bytes.now c.args.past.now c.args.fresh.now) packs may in
+    let first = c.in-Ok.ensures.near told quick listed in
+    let second = c.grow_pages-grown.ensures.runs o told whole tidy there is may_then in
+    omega (arith, first, second)
+
 pub returns-in-Ok-grown-clause-handy : goal.returns-in-Ok-grown-clause-handy
 returns-in-Ok-grown-clause-handy g c o told stands may =
     let a = g.D.Tape.tape c.args.disk.now in
@@ -209,6 +229,27 @@ returns-in-Ok-grown-clause-handy g c o told stands may =
     let may_then = subst (λ (p : Pack). MayBeGrown p o fid c.args.bytes.now c.args.past.now c.args.fresh.now) packs may in
     let grew = subst (λ (p : Pack). Grew p (pack d) fid last.number c.args.fresh.now) (sym packs) (rw c.in-Ok-grown.is at (c.grow_pages-grown.ensures.grew o told whole tidy there is may_then)) in
     grown_handy (pack a) (pack d) fid last.number c.args.fresh.now grew c.args.hints.now.cache c.last_page.new.hints.cache c.note_pages.new.cache (c.last_page.ensures.handy told) c.last_page.ensures.refused c.note_pages.ensures.notes
+
+pub returns-in-Ok-grown-clause-highest : goal.returns-in-Ok-grown-clause-highest
+returns-in-Ok-grown-clause-highest g c o told stands may low =
+    let a = g.D.Tape.tape c.args.disk.now in
+    let b = g.D.Tape.tape c.last_page.new.disk in
+    let d = g.D.Tape.tape c.grow_pages-grown.new.disk in
+    let fid = c.args.file.now.fid in
+    let last = c.in-Ok.last in
+    let looks = c.last_page.ensures.looks in
+    let silent = looks.silent told in
+    let packs : pack a ≡ pack b = sym (pack-silent looks.alone.grown silent) in
+    let whole = subst (λ (p : Pack). Whole p) packs stands.whole in
+    let tidy = subst (λ (p : Pack). Tidy p) packs stands.tidy in
+    let there = subst (λ (p : Pack). Stands p (page_number fid last.number) last.at c.last_page.new.buf) packs (c.in-Ok.ensures.stands told) in
+    let is = subst (λ (p : Pack). IsLast p fid last) packs (c.in-Ok.ensures.last told stands.whole) in
+    let may_then = subst (λ (p : Pack). MayBeGrown p o fid c.args.bytes.now c.args.past.now c.args.fresh.now) packs may in
+    let grew = subst (λ (p : Pack). Grew p (pack d) fid last.number c.args.fresh.now) (sym packs) (rw c.in-Ok-grown.is at (c.grow_pages-grown.ensures.grew o told whole tidy there is may_then)) in
+    let last_is = c.in-Ok.ensures.last told stands.whole in
+    let ends = grew.ends in
+    let highest = c.in-Ok.ensures.highest told stands.whole (omega (arith, ends, low)) in
+    grown_highest (pack a) (pack d) fid last c.args.hints.now.cache c.last_page.new.hints.cache c.note_pages.new.cache c.args.fresh.now grew last_is c.last_page.ensures.refused c.note_pages.ensures.refused highest c.note_pages.ensures.notes c.note_pages.ensures.listed c.note_pages.ensures.none low
 
 pub returns-in-Ok-grown-clause-named : goal.returns-in-Ok-grown-clause-named
 returns-in-Ok-grown-clause-named g c o more told stands may near =

@@ -132,3 +132,12 @@ returns-in-Err-clause-bits g c told = keeps_bits (pack (g.D.Tape.tape c.read_aft
 
 pub returns-in-Err-release-clause-bits : goal.returns-in-Err-release-clause-bits
 returns-in-Err-release-clause-bits g c told = keeps_bits (pack (g.D.Tape.tape c.release.new.disk)) refl
+
+pub returns-in-Ok-release-clause-runs : goal.returns-in-Ok-release-clause-runs
+returns-in-Ok-release-clause-runs g c told = let one = c.read_after.ensures.looks.runs told in let two = (c.release.ensures.guarded told).runs in omega (arith, one, two)
+
+pub returns-in-Err-release-clause-runs : goal.returns-in-Err-release-clause-runs
+returns-in-Err-release-clause-runs g c told = let one = c.read_after.ensures.looks.runs told in let two = (c.release.ensures.guarded told).runs in omega (arith, one, two)
+
+pub returns-in-Err-clause-runs : goal.returns-in-Err-clause-runs
+returns-in-Err-clause-runs g c told = let one = c.read_after.ensures.looks.runs told in omega (arith, one)

@@ -6,7 +6,7 @@ use Rattle.hint_cache.specs.Caches.{address_in}
 use Rattle.page_seeking.proofs.Ending.{same_or_less}
 use Rattle.page_seeking.specs.Seeking.{page_number}
 use Rattle.file_pages.proofs.Gone.{none_gone_twice}
-use Rattle.file_pages.proofs.Remaining.{short_end}
+use Rattle.file_pages.proofs.Remaining.{more_after, short_end, up_to_end}
 use Rattle.file_pages.proofs.ReleaseLoop.{halfway_here, halfway_more, releases_all, releases_broke}
 use Rattle.disk_records.proofs.Framing.{page_by_sector, writes_silent, writes_then}
 use Rattle.disk_records.specs.Frames.{IsPageOf}
@@ -17,6 +17,7 @@ pub loop-lower-init : goal.loop-lower-init
 loop-lower-init g c = record {
   alone = alone_here (g.D.Tape.tape c.args.disk.now);
   unfailed = refl;
+  runs = λ told. omega arith;
   frame = λ told. writes_silent (IsPageOf c.args.fid (pack (g.D.Tape.tape c.args.disk.now))) (added (g.D.Tape.tape c.args.disk.now) (g.D.Tape.tape c.args.disk.now)) (nothing_added (g.D.Tape.tape c.args.disk.now).events);
   bits = λ told. keeps_bits (pack (g.D.Tape.tape c.args.disk.now)) refl;
   sized = refl;
@@ -37,6 +38,7 @@ loop-lower-preserved g c =
     record {
       alone = alone_twice inv.alone step.alone;
       unfailed = c.in-Ok.ensures.cause ∙ inv.unfailed;
+      runs = λ told. let was = inv.runs told in let more = step.runs told in omega (arith, was, more);
       frame = λ told. writes_then (IsPageOf c.args.fid) (page_by_sector c.args.fid) inv.alone.grown step.alone.grown (inv.frame told) (step.frame told);
       bits = λ told. frees_then c.args.fid c.args.hints.now.table c.loop-lower.hints.table c.release_after.new.hints.table step.alone.grown (step.frame told) (inv.bits told) (step.bits told);
       sized = step.sized ∙ inv.sized;
@@ -116,3 +118,25 @@ returns-in-Err-clause-frame g c told = writes_then (IsPageOf c.args.fid) (page_b
 
 pub returns-in-Err-clause-bits : goal.returns-in-Err-clause-bits
 returns-in-Err-clause-bits g c told = frees_then c.args.fid c.args.hints.now.table c.loop-lower.hints.table c.release_after.new.hints.table c.release_after.ensures.alone.grown (c.release_after.ensures.frame told) (c.loop-lower.invariant.bits told) (c.release_after.ensures.bits told)
+
+pub returns-then-not-goes_on-clause-runs : goal.returns-then-not-goes_on-clause-runs
+returns-then-not-goes_on-clause-runs g c p told follows whole =
+    let inv = c.loop-lower.invariant in
+    let runs = inv.runs told in
+    let within = up_to_end p c.args.fid c.loop-lower.lower c.loop-lower.here c.loop-lower.last (inv.follows p told follows).known whole in
+    omega (arith, runs, within)
+
+pub returns-in-Err-clause-runs : goal.returns-in-Err-clause-runs
+returns-in-Err-clause-runs g c p told follows whole =
+    let inv = c.loop-lower.invariant in
+    let runs = inv.runs told in
+    let more = c.release_after.ensures.runs told in
+    let within = more_after p c.args.fid c.loop-lower.lower c.loop-lower.here c.loop-lower.last (inv.follows p told follows).known (c.goes_on.ensures.full c.if-not-goes_on.false) whole in
+    omega (arith, runs, more, within)
+
+pub returns-clause-runs : goal.returns-clause-runs
+returns-clause-runs g c p told follows whole =
+    let inv = c.loop-lower.invariant in
+    let runs = inv.runs told in
+    let within = up_to_end p c.args.fid c.loop-lower.lower c.loop-lower.here c.loop-lower.last (inv.follows p told follows).known whole in
+    omega (arith, runs, within)

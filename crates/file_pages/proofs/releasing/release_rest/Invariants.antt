@@ -1,4 +1,4 @@
-use Rattle.std.proofs.Common.{IsTrue, List, None, length, ℕ, ◌<◌, ◌≡◌, ◌≤◌}
+use Rattle.std.proofs.Common.{IsTrue, List, None, length, ℕ, ◌*◌, ◌+◌, ◌<◌, ◌≡◌, ◌≤◌}
 use Rattle.disk_records.specs.Causes.{Unfailed}
 use Rattle.disk_records.specs.Frames.{IsPageOf, WritesIn}
 use Rattle.disk_records.specs.Packs.{Pack}
@@ -15,6 +15,7 @@ invariant-loop-lower g l =
     record {
       alone : DiskAlone old now;
       unfailed : Unfailed old now;
+      runs : IsTrue g.D.Tape.told → now.runs + 3 * l.fn.number ≤ old.runs + 3 * l.lower;
       frame : IsTrue g.D.Tape.told → WritesIn (IsPageOf l.fid (pack old)) (added old now);
       bits : IsTrue g.D.Tape.told → KeepsOrFrees (pack now) l.fn.hints.table l.hints.table;
       sized : length l.hints.table ≡ length l.fn.hints.table;

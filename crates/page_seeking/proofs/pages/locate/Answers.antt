@@ -14,6 +14,9 @@ returns-in-Err-clause-beyond g c told whole = if_beyond_map {T = Found} (Err c.i
 pub returns-in-Ok-clause-quick : goal.returns-in-Ok-clause-quick
 returns-in-Ok-clause-quick g c told quick = c.in-Ok.ensures.quick c.in-Ok.found.at told (eases_of quick (c.in-Ok.ensures.found.stands told).carries)
 
+pub returns-in-Ok-clause-row : goal.returns-in-Ok-clause-row
+returns-in-Ok-clause-row g c told quick row = c.in-Ok.ensures.row c.in-Ok.found.at told (eases_of quick (c.in-Ok.ensures.found.stands told).carries) row
+
 pub returns-in-Ok-clause-leader : goal.returns-in-Ok-clause-leader
 returns-in-Ok-clause-leader g c told zeroth quick =
     let finds = finds_of quick (c.in-Ok.ensures.found.stands told).carries in

@@ -1,11 +1,10 @@
-use Rattle.std.proofs.Common.{◌≡◌, ap, length, arith, subst, ◌∙◌, refl}
+use Rattle.std.proofs.Common.{◌≡◌, ap, arith, subst, ◌∙◌, refl}
 use Rattle.disk_records.specs.declared.records.Page.{Page}
 use Rattle.disk_records.specs.Packs.{Pack, carried}
 use Rattle.disk_records.specs.Tapes.{pack}
-use Rattle.hint_cache.specs.Caches.{address_in}
 use Rattle.disk_records.proofs.Looking.{looks_pack}
 use Rattle.page_seeking.proofs.Easing.{listed_right}
-use Rattle.page_seeking.proofs.Recalling.{fewer_without, sought_forgotten}
+use Rattle.page_seeking.proofs.Recalling.{sought_forgotten}
 use Rattle.page_seeking.specs.Seeking.{page_number}
 use Rattle.page_seeking.specs.Inside.{Confirmed}
 use Rattle.page_seeking.proofs.Seeking.{confirmed_before, sought_here, sought_more, sought_twice, sought_within}
@@ -13,22 +12,19 @@ use Rattle.page_seeking.proofs.pages.nearest_below.Goals as goal
 
 pub loop-entry-init : goal.loop-entry-init
 loop-entry-init g c =
-    let few = c.refused-refused.ensures.kept.few in
-    record { below = omega arith; unfailed = refl; sought = sought_more (omega arith) (sought_here (g.D.Tape.tape c.args.disk.now) c.args.cache.now); spent = λ told. omega (arith, few); quick = λ at told eases. omega arith }
+    record { below = omega arith; fewer = omega arith; unfailed = refl; sought = sought_more (omega arith) (sought_here (g.D.Tape.tape c.args.disk.now) c.args.cache.now); spent = λ told. omega arith; quick = λ at told eases. omega arith }
 
 pub returns-in_err-found-clause-sought : goal.returns-in_err-found-clause-sought
 returns-in_err-found-clause-sought g c =
     let inv = c.loop-entry.invariant in
-    let entry = c.in-Some.entry in
-    let one = fewer_without entry.page entry.at c.loop-entry.cache.entries c.in-Some.ensures.some.listed in
-    sought_within (sought_twice inv.sought c.try_at.ensures.sought) (λ told. omega (arith, one, inv.spent told, c.try_at.ensures.sought.looks.runs told))
+    let some = c.if-left-eq0.false in
+    sought_within (sought_twice inv.sought c.try_at.ensures.sought) (λ told. omega (arith, some, inv.spent told, c.try_at.ensures.sought.looks.runs told))
 
 pub returns-in-Some-2-clause-sought : goal.returns-in-Some-2-clause-sought
 returns-in-Some-2-clause-sought g c =
     let inv = c.loop-entry.invariant in
-    let entry = c.in-Some.entry in
-    let one = fewer_without entry.page entry.at c.loop-entry.cache.entries c.in-Some.ensures.some.listed in
-    sought_within (sought_twice inv.sought c.try_at.ensures.sought) (λ told. omega (arith, one, inv.spent told, c.try_at.ensures.sought.looks.runs told))
+    let some = c.if-left-eq0.false in
+    sought_within (sought_twice inv.sought c.try_at.ensures.sought) (λ told. omega (arith, some, inv.spent told, c.try_at.ensures.sought.looks.runs told))
 
 pub returns-in-Some-2-clause-found : goal.returns-in-Some-2-clause-found
 returns-in-Some-2-clause-found g c first =
@@ -53,14 +49,13 @@ loop-entry-preserved g c =
     let entry = c.in-Some.entry in
     let some = c.in-Some.ensures.some in
     let missed = rw c.in_default-2.is at c.in_ok-found.ensures.missed in
-    let gone = ap (λ x. length x.entries) c.forget.ensures.out in
-    let cut = fewer_without entry.page entry.at c.try_at.new.cache.entries (ap (λ x. address_in x.entries entry.page) missed ∙ some.listed) in
-    let same = ap (λ x. length x.entries) missed in
+    let more = c.if-left-eq0.false in
     record {
       below = let below = some.below in let low = inv.below in omega (arith, below, low);
+      fewer = let low = inv.fewer in omega (arith, low);
       unfailed = c.in_ok-found.ensures.cause ∙ c.loop-entry.invariant.unfailed;
-      sought = sought_within (sought_forgotten entry.page c.forget.ensures.out (sought_twice inv.sought c.try_at.ensures.sought)) (λ told. omega (arith, gone, cut, same, inv.spent told, c.try_at.ensures.sought.looks.runs told));
-      spent = λ told. omega (arith, gone, cut, same, inv.spent told, c.try_at.ensures.sought.looks.runs told);
+      sought = sought_within (sought_forgotten entry.page c.forget.ensures.out (sought_twice inv.sought c.try_at.ensures.sought)) (λ told. omega (arith, more, inv.spent told, c.try_at.ensures.sought.looks.runs told));
+      spent = λ told. omega (arith, more, inv.spent told, c.try_at.ensures.sought.looks.runs told);
       quick = λ at told eases.
           let old = pack (g.D.Tape.tape c.args.disk.now) in
           let looks = inv.sought.looks in

@@ -1,4 +1,4 @@
-use Rattle.std.proofs.Common.{ℕ, ◌+◌, ◌≤◌, IsTrue, length}
+use Rattle.std.proofs.Common.{ℕ, ◌+◌, ◌≤◌, IsTrue}
 use Rattle.disk_records.specs.Causes.{Unfailed}
 use Rattle.disk_records.specs.Tapes.{pack}
 use Rattle.page_seeking.specs.Inside.{Eases, Sought}
@@ -10,9 +10,10 @@ invariant-loop-entry g l =
     let now = g.D.Tape.tape l.disk in
     record {
       below : l.above ≤ l.page.number;
-      sought : Sought g.D.Tape.told 48 old now l.fn.cache l.cache;
+      fewer : l.left ≤ l.most;
+      sought : Sought g.D.Tape.told l.most old now l.fn.cache l.cache;
       unfailed : Unfailed old now;
-      spent : IsTrue g.D.Tape.told → now.runs + length l.cache.entries ≤ old.runs + 48;
+      spent : IsTrue g.D.Tape.told → now.runs + l.left ≤ old.runs + l.most;
       quick : (at : ℕ) → IsTrue g.D.Tape.told → Eases (pack old) l.page.fid l.page.number at l.fn.cache → now.runs ≤ old.runs;
     }
 

@@ -2,7 +2,7 @@ use Rattle.std.proofs.Common.{arith, sym, subst, inr}
 use Rattle.disk_records.specs.Packs.{Pack}
 use Rattle.page_seeking.proofs.Erring.{if_ok_map, if_misled_map, if_beyond_map, on_ok}
 use Rattle.disk_records.proofs.Looking.{looks_pack}
-use Rattle.page_seeking.proofs.Easing.{eases_later, eases_leader, finds_eased, leads_to}
+use Rattle.page_seeking.proofs.Easing.{eases_later, eases_leader, finds_eased, leads_to, row_set}
 use Rattle.page_seeking.proofs.Seeking.{confirmed_before, end_before, known_later, known_of, misled_before, sought_more, sought_twice}
 use Rattle.disk_records.specs.Tapes.{pack}
 use Rattle.laws_lookup.specs.laws_record.proofs.Copying.{place_carried}
@@ -77,3 +77,19 @@ returns-in_ok-below-in-None-clause-on_disk g c = λ told stands. c.climb.ensures
 
 pub returns-in_ok-below-in-None-clause-hint : goal.returns-in_ok-below-in-None-clause-hint
 returns-in_ok-below-in-None-clause-hint g c = if_misled_map c.climb.result c.climb.ensures.link (λ place at wanted found x. inr x)
+
+pub returns-in-Some-clause-row : goal.returns-in-Some-clause-row
+returns-in-Some-clause-row g c at told eases row =
+    let low = eases_leader c.requires.first eases in
+    let leader = c.locate_leader.ensures.quick low.0 told (finds_eased low.1) in
+    let stands = subst (λ (p : Pack). Stands p (page_number c.args.file.now.fid 0) c.in_ok-leader.leader.at c.locate_leader.new.buf) (sym (looks_pack c.locate_leader.ensures.sought.looks told)) (c.in_ok-leader.ensures.found.stands told) in
+    let here = eases_later c.locate_leader.ensures.sought told eases in
+    let hints = c.try_leader_hints.ensures.quick at told (place_carried (pack (g.D.Tape.tape c.locate_leader.new.disk)) (page_number c.args.file.now.fid c.args.number) at here.placed) (leads_to c.requires.first here stands) in
+    omega (arith, leader, hints)
+
+pub returns-in_ok-below-in-None-clause-row : goal.returns-in_ok-below-in-None-clause-row
+returns-in_ok-below-in-None-clause-row g c at told eases row =
+    let found = c.in_ok-leader.ensures.found.stands told in
+    let stands = subst (λ (p : Pack). Stands p (page_number c.args.file.now.fid 0) c.in_ok-leader.leader.at c.locate_leader.new.buf) (sym (looks_pack c.locate_leader.ensures.sought.looks told)) found in
+    let here = eases_later c.locate_leader.ensures.sought told eases in
+    absurd (rw c.in-None.is at (c.in_ok-found.ensures.in_a_row at told (place_carried (pack (g.D.Tape.tape c.locate_leader.new.disk)) (page_number c.args.file.now.fid c.args.number) at here.placed) (leads_to c.requires.first here stands) (row_set eases.whole found row)))

@@ -7,6 +7,7 @@ use Rattle.disk_records.proofs.Looking.{looks_pack}
 use Rattle.page_seeking.proofs.Easing.{eases_later, finds_eased, passed_free}
 use Rattle.page_seeking.proofs.Seeking.{confirmed_before, end_before, misled_before, sought_more, sought_twice}
 use Rattle.page_seeking.specs.Inside.{Eases}
+use Rattle.page_seeking.specs.Seeking.{IsInARow}
 use Rattle.page_seeking.proofs.pages.seek_page.Goals as goal
 
 pub returns-in-None-clause-sought : goal.returns-in-None-clause-sought
@@ -45,3 +46,16 @@ returns-in-None-clause-on_disk g c = λ told stands. c.seek_from_leader.ensures.
 
 pub returns-then-number-eq0-clause-hint : goal.returns-then-number-eq0-clause-hint
 returns-then-number-eq0-clause-hint g c = if_misled_map c.locate_leader.result c.locate_leader.ensures.hint (λ place at wanted found x. inl x)
+
+pub returns-in-None-clause-row : goal.returns-in-None-clause-row
+returns-in-None-clause-row g c at told eases row =
+    let here = rw c.in-None.is at c.in_ok-found.ensures.here in
+    let none = passed_free (pack (g.D.Tape.tape c.args.disk.now)) c.args.file.now.fid c.args.number at c.args.cache.now (finds_eased eases) (c.try_cached.ensures.unlisted told) (λ i. here i told) in
+    let looks = c.try_cached.ensures.sought.looks in
+    on_ok_map c.seek_from_leader.result (λ h. omega (arith, none, h)) (c.seek_from_leader.ensures.row at told (eases_later c.try_cached.ensures.sought told eases) (subst (λ (p : Pack). IsInARow p c.args.file.now.fid) (sym (looks_pack looks told)) row))
+
+pub returns-then-number-eq0-clause-row : goal.returns-then-number-eq0-clause-row
+returns-then-number-eq0-clause-row g c at told eases row =
+    let old = pack (g.D.Tape.tape c.args.disk.now) in
+    let few = c.locate_leader.ensures.quick at told (finds_eased (subst (λ n. Eases old c.args.file.now.fid n at c.args.cache.now) c.if-number-eq0.true eases)) in
+    on_ok c.locate_leader.result (omega (arith, few))

@@ -1,4 +1,4 @@
-use Rattle.std.proofs.Common.{ℕ, Err, []}
+use Rattle.std.proofs.Common.{Err, []}
 use Rattle.disk_records.specs.Tapes.{pack}
 use Rattle.page_seeking.proofs.Easing.{keeps_handy}
 use Rattle.page_seeking.proofs.Once.{full_before_byte, once_of_whole}

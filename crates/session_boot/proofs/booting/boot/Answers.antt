@@ -8,6 +8,8 @@ use Rattle.session_boot.specs.Faults.{NoFault, UnlessStopped, status_of, status_
 use Rattle.session_boot.proofs.Entering.{ended_boots, failed_boots, fault_cause, fault_answers, need_cause, need_answers, need_unfailed, opened_boots, refused_boots, refused_cause, refused_unfailed, sound_once}
 use Rattle.session_boot.proofs.Unfailing.{none_of_disk, none_twice, stopped_owes}
 use Rattle.session_boot.proofs.Unread.{reason_writes, silent_writes}
+use Rattle.disk_records.proofs.Framing.{writes_silent}
+use Rattle.session_boot.proofs.Framing.{usable_grown, usable_none}
 use Rattle.session_boot.proofs.booting.boot.Goals as goal
 
 pub returns-in-Err-clause-unread : goal.returns-in-Err-clause-unread
@@ -98,3 +100,16 @@ returns-clause-booted g c = λ told.
     (fault_cause x y z fault (none_of_disk c.begin_and_flush.ensures.alone c.in-Ok.ensures.cause) c.in-Err-ended.ensures.cause) in
     subst (Booted moment x z given c.tally.result) (sym c.status.ensures)
     (subst (λ t. Booted moment x z given t (status_of fault)) (sym c.tally.ensures) all)
+
+-- ---- where it writes
+pub returns-in-Err-clause-frame : goal.returns-in-Err-clause-frame
+returns-in-Err-clause-frame g c =
+    let y = g.M.Tape.tape c.begin_and_flush.new.disk in
+    let z = g.M.Tape.tape c.refuse_pack.new.console in
+    usable_grown c.begin_and_flush.ensures.alone.grown c.refuse_pack.ensures.alone.grown (λ told. writes_silent _ _ (c.begin_and_flush.ensures.silent told)) (usable_none c.refuse_pack.ensures.alone.grown (λ told. reason_writes c.in-Err.error y z c.refuse_pack.result (c.refuse_pack.ensures.shown told)))
+
+pub returns-in-Ok-ended-clause-frame : goal.returns-in-Ok-ended-clause-frame
+returns-in-Ok-ended-clause-frame g c = usable_grown c.begin_and_flush.ensures.alone.grown c.obey_lines-ended.ensures.grown (λ told. writes_silent _ _ (c.begin_and_flush.ensures.silent told)) c.obey_lines-ended.ensures.frame
+
+pub returns-clause-frame : goal.returns-clause-frame
+returns-clause-frame g c = usable_grown c.begin_and_flush.ensures.alone.grown c.obey_lines-ended.ensures.grown (λ told. writes_silent _ _ (c.begin_and_flush.ensures.silent told)) c.obey_lines-ended.ensures.frame

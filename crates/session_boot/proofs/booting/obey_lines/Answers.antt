@@ -1,5 +1,8 @@
 use Rattle.std.proofs.Common.{ap, inr, refl, sym, subst, ◌∙◌, arith, Some}
+use Rattle.disk_records.proofs.Framing.{usable_here}
 use Rattle.disk_records.proofs.Growing.{grown_here, grown_twice}
+use Rattle.disk_records.specs.Frames.{WritesUsable}
+use Rattle.disk_records.specs.Tapes.{Grown}
 use Rattle.exec_session.specs.Meant.{kept}
 use Rattle.session_boot.specs.Boots.{LastsBy}
 use Rattle.session_boot.proofs.Answers.{err_is}
@@ -10,11 +13,13 @@ use Rattle.session_boot.proofs.SoFar.{Modelled}
 use Rattle.session_boot.proofs.Unfailing.{none_here, none_twice}
 use Rattle.session_boot.proofs.Unread.{Unread, ended_unread, fewer_are_others, unread_broke, unread_here, unread_none, unread_taken, unread_writes}
 use Rattle.session_boot.specs.declared.line.Next.TheVariants.{More, Over}
+use Rattle.session_boot.proofs.Framing.{usable_grown}
 use Rattle.session_boot.proofs.booting.obey_lines.Goals as goal
 use Rattle.session_boot.proofs.booting.obey_lines.Goals.{else-lines-test, then-lines-test+in_ok-answer_next+in-None}
 
 pub lines-init : goal.lines-init
 lines-init g c = record {
+  frame = usable_here (g.M.Tape.tape c.args.machine.now);
   grown = grown_here (g.M.Tape.tape c.args.machine.now);
   unfailed = none_here (g.M.Tape.tape c.args.machine.now);
   unread = λ told. unread_here (g.M.Tape.tape c.args.machine.now) (kept c.args.session.now);
@@ -43,6 +48,7 @@ returns-in-Some-Over-clause-lasts g c = λ told moment first given limit opened 
 
 pub lines-preserved : goal.lines-preserved
 lines-preserved g c = record {
+  frame = usable_grown c.lines.invariant.grown c.answer_next.ensures.grown c.lines.invariant.frame c.answer_next.ensures.frame;
   grown = grown_twice c.lines.invariant.grown c.answer_next.ensures.grown;
   unfailed = none_twice c.lines.invariant.unfailed c.in_ok-answer_next.ensures.unfailed;
   unread = λ told. inr (unread_taken (g.M.Tape.tape c.args.machine.now) (g.M.Tape.tape c.lines.machine) (g.M.Tape.tape c.answer_next.new.machine) (kept c.args.session.now) (kept c.lines.session) (kept c.answer_next.new.session) c.lines.left c.answer_next.new.left (c.lines.invariant.unread told) More c.in_ok-answer_next.field-0 (c.in-Some-More.is ∙ ap (λ n. Some n) c.in-Some-More.field-0-is) (c.in_ok-answer_next.ensures.next told));
@@ -85,3 +91,23 @@ returns-clause-lasts g c = λ told moment first given limit opened sound is_begu
     ] in
     end_lasts (kept c.end_session.new.session) at (record { counts = g.met.M.Disk.counted c.lines-test.machine told; formed = g.met.M.Disk.formed c.lines-test.machine told }) limit sound opened.counts
     c.end_session.ensures.grown c.end_session.ensures.keys c.end_session.result (c.end_session.ensures.turn told) c.end_session.ensures.no_key
+
+-- ---- where it writes
+pub returns-in_err-answer_next-clause-frame : goal.returns-in_err-answer_next-clause-frame
+returns-in_err-answer_next-clause-frame g c = usable_grown c.lines.invariant.grown c.answer_next.ensures.grown c.lines.invariant.frame c.answer_next.ensures.frame
+
+pub returns-in-Some-Over-clause-frame : goal.returns-in-Some-Over-clause-frame
+returns-in-Some-Over-clause-frame g c = usable_grown c.lines.invariant.grown c.answer_next.ensures.grown c.lines.invariant.frame c.answer_next.ensures.frame
+
+pub returns-clause-frame : goal.returns-clause-frame
+returns-clause-frame g c =
+    let x = g.M.Tape.tape c.args.machine.now in
+    let y = g.M.Tape.tape c.lines-test.machine in
+    let so = c.lines.invariant in
+    let there : Grown x y × WritesUsable g.M.Tape.told x y = elim c.lines-test.branch [
+      | else-lines-test w ↦ rw w.machine-is (so.grown, so.frame)
+      | then-lines-test+in_ok-answer_next+in-None w ↦
+          let next = w.answer_next.ensures in
+          rw w.machine-is (grown_twice so.grown next.grown, usable_grown so.grown next.grown so.frame next.frame)
+    ] in
+    usable_grown there.0 c.end_session.ensures.grown there.1 c.end_session.ensures.frame

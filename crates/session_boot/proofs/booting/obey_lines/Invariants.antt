@@ -1,5 +1,6 @@
 use Rattle.std.proofs.Common.{◌≡◌, ◌<◌, ◌^◌, ℕ, IsTrue, length}
 use Rattle.disk_records.specs.declared.records.Tally.{Tally}
+use Rattle.disk_records.specs.Frames.{WritesUsable}
 use Rattle.disk_records.specs.Tapes.{Grown, Taped, pack}
 use Rattle.exec_session.specs.Meant.{kept}
 use Rattle.executive.specs.pack_model.specs.states.Sound.{Sound}
@@ -16,6 +17,7 @@ invariant-lines g l =
     let old = g.M.Tape.tape l.fn.machine in
     let now = g.M.Tape.tape l.machine in
     record {
+      frame : WritesUsable g.M.Tape.told old now;
       grown : Grown old now;
       unfailed : NoFault old now;
       unread : IsTrue g.M.Tape.told → Unread old now (kept l.fn.session) (kept l.session);

@@ -7,6 +7,8 @@ use Rattle.session_model.specs.Turning.{cue_for}
 use Rattle.session_boot.specs.Turns.{TurnTaken, TurnsFrom, is_over}
 use Rattle.disk_records.specs.Tapes.{added, pack}
 use Rattle.session_boot.proofs.Answers.{answer_cut, answer_missed, answer_shown, answer_stopped, err_is, line_never_asks, next_over}
+use Rattle.disk_records.proofs.Framing.{usable_here}
+use Rattle.session_boot.proofs.Framing.{usable_grown, usable_shown}
 use Rattle.session_boot.proofs.line.answer_line.Goals as goal
 
 pub returns-in_err-line-clause-turn : goal.returns-in_err-line-clause-turn
@@ -50,3 +52,16 @@ returns-clause-turn g c = λ told s keeping.
     (subst (TurnTaken (pack x) (added x z) x.writes z one two s (cue_for l)) (next_over c.obey_and_flush-reply.result c.in_ok-next.next (sym c.in_ok-next.ensures))
     (answer_shown is_over x y one two (cue_for l) c.obey_and_flush-reply.result (line_never_asks l) (c.obey_and_flush-reply.ensures.turns told) z c.obey_and_flush-reply.ensures.alone.grown c.in_ok-show_reply.ensures.alone.grown
     c.in_ok-next.next (sym c.in_ok-next.ensures) (c.in_ok-show_reply.ensures.shown told).ok s keeping))
+
+-- ---- where it writes
+pub returns-in_err-line-clause-frame : goal.returns-in_err-line-clause-frame
+returns-in_err-line-clause-frame g c = usable_here (g.M.Tape.tape c.args.machine.now)
+
+pub returns-in_err-next-clause-frame : goal.returns-in_err-next-clause-frame
+returns-in_err-next-clause-frame g c = c.obey_and_flush-reply.ensures.frame
+
+pub returns-in_err-show_reply-clause-frame : goal.returns-in_err-show_reply-clause-frame
+returns-in_err-show_reply-clause-frame g c = usable_grown c.obey_and_flush-reply.ensures.alone.grown c.in_err-show_reply.ensures.alone.grown c.obey_and_flush-reply.ensures.frame (usable_shown c.in_err-show_reply.ensures.shown)
+
+pub returns-clause-frame : goal.returns-clause-frame
+returns-clause-frame g c = usable_grown c.obey_and_flush-reply.ensures.alone.grown c.in_ok-show_reply.ensures.alone.grown c.obey_and_flush-reply.ensures.frame (usable_shown c.in_ok-show_reply.ensures.shown)

@@ -8,6 +8,7 @@ use Rattle.session_model.specs.Turning.{ended}
 use Rattle.session_boot.specs.Turns.{ends_all}
 use Rattle.session_boot.proofs.Answers.{answer_stopped, end_never_asks, end_said, err_is}
 use Rattle.session_boot.proofs.Unread.{first_shown}
+use Rattle.session_boot.proofs.Framing.{usable_grown, usable_shown}
 use Rattle.session_boot.proofs.line.end_session.Goals as goal
 
 pub returns-in_err-next_after-clause-quiet : goal.returns-in_err-next_after-clause-quiet
@@ -30,3 +31,9 @@ pub returns-clause-turn : goal.returns-clause-turn
 returns-clause-turn g c = λ told.
     end_said (g.M.Tape.tape c.args.machine.now) (g.M.Tape.tape c.end_and_flush-reply.new.disk) (g.M.Tape.tape c.show_reply.new.console) (kept c.args.session.now) (kept c.end_and_flush-reply.new.session) c.end_and_flush-reply.result (c.end_and_flush-reply.ensures.turns told)
     c.end_and_flush-reply.ensures.alone.grown c.show_reply.ensures.alone.grown c.in_ok-next_after.field-0 (sym c.in_ok-next_after.ensures) c.show_reply.result (c.show_reply.ensures.shown told) c.show_reply.ensures.cause
+
+pub returns-in_err-next_after-clause-frame : goal.returns-in_err-next_after-clause-frame
+returns-in_err-next_after-clause-frame g c = c.end_and_flush-reply.ensures.frame
+
+pub returns-clause-frame : goal.returns-clause-frame
+returns-clause-frame g c = usable_grown c.end_and_flush-reply.ensures.alone.grown c.show_reply.ensures.alone.grown c.end_and_flush-reply.ensures.frame (usable_shown c.show_reply.ensures.shown)

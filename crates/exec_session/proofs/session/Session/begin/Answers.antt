@@ -19,23 +19,23 @@ returns-clause-opens g c = λ told once.
     let old = g.D.Tape.tape c.args.disk.now in
     let o = c.in_ok-opened.opened in
     let opened = c.in_ok-opened.ensures.opened told once in
-    let s = begun_of o.descriptor o.hints c.args.moment c.args.limit in
-    let made = is_made o.descriptor o.hints c.args.moment c.args.limit in
+    let s = begun_of o.descriptor o.hints c.in-Ok.world c.none.result c.args.moment c.args.limit in
+    let made = is_made o.descriptor o.hints c.in-Ok.world c.none.result c.args.moment c.args.limit c.in-Ok.ensures.memory c.in-Ok.ensures.level in
     (opened.0, λ sound. is_begun c.args.moment c.args.limit s made (pack old) (each_sector_stays (first_pack old) old.events (g.met.D.Disk.sized c.args.disk.now told)) sound opened.1)
 
 pub returns-clause-fresh : goal.returns-clause-fresh
 returns-clause-fresh g c =
     let o = c.in_ok-opened.opened in
-    let s = begun_of o.descriptor o.hints c.args.moment c.args.limit in
-    is_fresh c.args.moment c.args.limit s (is_made o.descriptor o.hints c.args.moment c.args.limit) c.in_ok-opened.ensures.clean
+    let s = begun_of o.descriptor o.hints c.in-Ok.world c.none.result c.args.moment c.args.limit in
+    is_fresh c.args.moment c.args.limit s (is_made o.descriptor o.hints c.in-Ok.world c.none.result c.args.moment c.args.limit c.in-Ok.ensures.memory c.in-Ok.ensures.level) c.in_ok-opened.ensures.clean
 
 pub returns-clause-formed : goal.returns-clause-formed
 returns-clause-formed g c =
     let o = c.in_ok-opened.opened in
-    let s = begun_of o.descriptor o.hints c.args.moment c.args.limit in
+    let s = begun_of o.descriptor o.hints c.in-Ok.world c.none.result c.args.moment c.args.limit in
     let form = c.in_ok-opened.ensures.looks.alone.grown.form in
     let formed = c.in_ok-opened.ensures.formed in
-    is_formed c.args.moment c.args.limit s (is_made o.descriptor o.hints c.args.moment c.args.limit)
+    is_formed c.args.moment c.args.limit s (is_made o.descriptor o.hints c.in-Ok.world c.none.result c.args.moment c.args.limit c.in-Ok.ensures.memory c.in-Ok.ensures.level)
     (g.D.Tape.tape c.open_pack.new.disk).form (formed.0 ∙ sym form) (formed.1 ∙ ap pages_of (sym form))
 
 -- ---- the pack isn't opened

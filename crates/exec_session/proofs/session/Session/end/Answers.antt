@@ -58,6 +58,9 @@ returns-in-Ok-clause-cause g c = c.in-Ok.ensures.cause
 pub returns-in-Ok-clause-alone : goal.returns-in-Ok-clause-alone
 returns-in-Ok-clause-alone g c = c.in-Ok.ensures.alone
 
+pub returns-in-Ok-clause-frame : goal.returns-in-Ok-clause-frame
+returns-in-Ok-clause-frame g c = c.in-Ok.ensures.frame
+
 -- ---- it broke off
 pub returns-in-Err-clause-answers : goal.returns-in-Err-clause-answers
 returns-in-Err-clause-answers g c = subst IsEndAnswer (sym c.stopped.ensures.reply) (stops_end c.in-Err.stop c.in-Err.ensures.unrefused)
@@ -80,3 +83,6 @@ returns-in-Err-clause-cause g c = subst (λ r. IsCause (g.D.Tape.tape c.args.dis
 
 pub returns-in-Err-clause-alone : goal.returns-in-Err-clause-alone
 returns-in-Err-clause-alone g c = c.in-Err.ensures.alone
+
+pub returns-in-Err-clause-frame : goal.returns-in-Err-clause-frame
+returns-in-Err-clause-frame g c = c.in-Err.ensures.frame

@@ -84,7 +84,7 @@ pub returns-clause-silent : goal.returns-clause-silent
 returns-clause-silent g c = c.in_ok-opened.ensures.looks.silent
 
 pub returns-clause-goes_on : goal.returns-clause-goes_on
-returns-clause-goes_on g c = record { world = refl; tally = refl; cache = ap all_listed c.in-Ok.ensures }
+returns-clause-goes_on g c = record { world = refl; streams = refl; tally = refl; cache = ap all_listed c.in-Ok.ensures }
 
 pub returns-clause-left : goal.returns-clause-left
 returns-clause-left g c = tt

@@ -1,0 +1,3 @@
+pub mod LinesAlone
+mod Lines
+mod Worlds

@@ -1,5 +1,0 @@
-use Rattle.exec_session.proofs.Lining.{line_is_done}
-use Rattle.exec_session.proofs.laws.line_is_done.Goals as goal
-
-pub returns : goal.returns
-returns c = line_is_done

@@ -1,5 +1,0 @@
-use Rattle.exec_session.proofs.Lining.{line_stops}
-use Rattle.exec_session.proofs.laws.line_stops.Goals as goal
-
-pub returns : goal.returns
-returns c = line_stops
