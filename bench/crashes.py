@@ -34,6 +34,7 @@ def states(plain, lines, replies, shown):
     """The states that a pack may have when so much was shown: after each prefix of the operations of the lines that aren't acknowledged.
     All lines are typed ahead, so replies may be held back while further ones are obeyed."""
     plain, acknowledged = copy.deepcopy(plain), acknowledged_lines(replies, shown)
+    plain.begin()
     for line in lines[:acknowledged]:
         plain.obey(line)
     found = [state_of(plain)]

@@ -12,7 +12,7 @@ COMMANDS, FORMATS = names.TOP / "docs/commands.md", names.TOP / "docs/formats.md
 TITLE = "It says, do"
 # texts that a refusal has without a row: those of lines that aren't built
 NOT_BUILT = (
-    *("needs level", "no stream", "too many streams", "streams open", "no room", "not a block", "in use at"),
+    *("no stream", "too many streams", "streams open"),
     *("not a world", "not whole", "spoilt world"),
 )
 

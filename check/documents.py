@@ -24,7 +24,33 @@ import wording
 TOP = names.TOP
 DOCUMENTS = [path for path in [TOP / "README.md", TOP / "CONTRIBUTING.md", *sorted((TOP / "docs").glob("*.md"))] if path.exists()]
 README_LINES = 80
-CRATE_EDITS = 12
+CRATE_EDITS = 6
+# edits that show what a user would lose most by: names, bytes, a pack that opens, the speed of a lookup, an answer that is true
+NAMED = (
+    "label_check/claim_label_before_value",
+    "label_check/claim_trusts_caller",
+    "label_check/leader_matches_any_page",
+    "page_alloc/full_by_the_table",
+    "page_seeking/file_ends_with_its_links",
+    "page_seeking/found_not_noted",
+    "directory/look_up_by_sweep",
+    "kept_names/suffixes_from_above",
+    "scav_names/nameless_file_freed",
+    "scav_pages/highest_copy_kept",
+    "scav_pages/links_left",
+    "exec_steps/mark_not_opened",
+    "exec_writing/entered_before_the_old_entry_leaves",
+    "exec_writing/entry_freed_first",
+    "executive/another_page_wanted",
+    "executive/true_link_failed",
+    "session_boot/always_a_fault",
+    "session_boot/always_needs_scavenge",
+    "session_boot/reply_before_write",
+    "alto_top/boot_always_a_display_fault",
+    "alto_top/boot_always_a_key_fault",
+    "alto_top/scavenge_always_refused",
+    "alto/always_a_fault",
+)
 PATH = re.compile(r"`((?:\w+::)+\w+)`")
 FILE = re.compile(r"(?<![\w./-])(?:\.ci|bench|check|crates|demo|docs|tools)/[\w./-]*\w")
 # what stands for any name, and what is built
@@ -70,8 +96,14 @@ def check_map():
 
 
 def check_few_edits():
-    """No crate has more must-fail edits than a gate has time for, beside those by which a word always answers a fault or a refusal."""
-    counts = collections.Counter(edit.split("/")[0] for edit in all_edits() if "_always_" not in edit)
+    """No crate has more must-fail edits than a gate has time for, beside those of NAMED, which are there, and those by which a word always
+    answers a fault or a refusal."""
+    edits = all_edits()
+    for edit in NAMED:
+        if edit not in edits:
+            crate, name = edit.split("/")
+            yield f"crates/{crate}/must-fail/{name}.edit: isn't there, and shows what a user would lose most by"
+    counts = collections.Counter(edit.split("/")[0] for edit in edits if "_always_" not in edit and edit not in NAMED)
     for crate, number in sorted(counts.items()):
         if number > CRATE_EDITS:
             yield f"crates/{crate}/must-fail: has {number} edits, and may have {CRATE_EDITS}"

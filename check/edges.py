@@ -277,6 +277,39 @@ def check_sessions(program):
     Run(program, ["--cylinders", "2", "new", "boot"], typed=PATCHES, redirect=">&-").gives(DISPLAY_FAILED, left=made)
 
 
+# lines on the memory in one session, and what each is answered: numbers at their bounds, past them and otherwise typed
+ON_MEMORY = [
+    *((f"junta {number}", "bad line") for number in ("0", "9", "00000000008", "-1", "+1", "1.0", "0x1", "4294967297", "", " 1", "1 ", "1 1", "1\r")),
+    *((line, "bad line") for line in ("junta", "Junta 1", "counterjunta 8", "counterjunta ", "counterJunta", "counter junta", "CounterJunta")),
+    *((f"block {number}", "bad line") for number in ("0", "0000000000", "65536", "4294967296", "-", "1 1", "")),
+    *((line, "bad line") for line in ("unblock 65536", "fetch 65536", "store 65536 0", "store 0 65536", "store 0", "store 0 -", "fetch #0", "unblock")),
+    *((line, "not a block") for line in ("unblock 0", "unblock 65535", "fetch 65535", "fetch 1024", "store 1024 0", "store 65535 65535")),
+    *(("store 0 0000065535", "done"), ("fetch 0000000000", "65535"), ("fetch 1023", "0"), ("counterjunta", "level 8"), ("junta 0000000008", "level 8")),
+    *(("block 65535", "no room: largest 39935"), ("block 0000039935", "at 1025"), ("block 1", "no room: largest 0"), ("unblock 0000001025", "done")),
+    *(("junta 07", "level 7"), ("block 44031", "at 1025"), ("counterjunta", "in use at 1025"), ("unblock 1025", "done"), ("counterjunta", "level 8")),
+    *(("junta 1", "level 1"), ("junta 8", "level 1"), ("block 65535", "needs level 2"), ("free", "needs level 3"), ("counterjunta", "level 8")),
+]
+
+
+def check_memory_lines(program):
+    """Lines on the memory, of which each writes nothing: the pack stays as it was, also where the last line has no end, the display fails, or
+    the session ends at level 1. One in which a hint failed ends so after `counterjunta`, too."""
+    pack, boot = abcde(), ["pack", "boot"]
+    typed, shown = ("\n".join(column).encode() for column in zip(*ON_MEMORY))
+    for end in (b"", b"\n"):
+        Run(program, boot, {"pack": pack}, typed + end).gives(DONE, shown + b"\n", left={"pack": pack})
+    for line, reply in (("junta 1", "level 1"), ("junta 1\nquit", "level 1\ndone"), ("block 1", "at 1025")):
+        Run(program, boot, {"pack": pack}, line.encode()).gives(DONE, f"{reply}\n".encode(), left={"pack": pack})
+    Run(program, boot, {"pack": pack}, b"store 0 1\n", ">/dev/full").gives(DISPLAY_FAILED, left={"pack": pack})
+    # the address in the entry of A
+    false = bytearray(pack)
+    false[packs.word_at(2, 29) : packs.word_at(2, 29) + 2] = bytes(2)
+    misled = b"hint failed: entry #1 word 29 at 0 wanted #3 v 1 page 0 found none\n"
+    lines = b"junta 6\ntype A\njunta 5\ncounterjunta\ncounterjunta 8\n"
+    replies = b"level 6\n" + misled + b"needs scavenging\nlevel 8\nbad line\n"
+    Run(program, boot, {"pack": bytes(false)}, lines).gives(IN_NEED, replies, left={"pack": bytes(false)})
+
+
 def check_show(program):
     pack, made = abcde(), bytes(SMALL)
     show = ["pack", "show"]
@@ -868,6 +901,7 @@ CHECKS = [
     check_cylinders,
     check_second,
     check_sessions,
+    check_memory_lines,
     check_show,
     check_format,
     check_prepare,

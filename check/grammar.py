@@ -9,6 +9,8 @@ sys.path.append(str(arguments.TOP / "tools"))
 from packtools import names
 
 LONGEST_LINE = 4_096
+# the greatest number that a word holds, and how many levels of service there are
+LAST_WORD, LEVELS = 65_535, 8
 NUMBER = re.compile("[0-9]{1,10}")
 HEX = re.compile("-|(?:[0-9A-Fa-f]{2}){1,2000}")
 # the operands of each verb that is built
@@ -27,6 +29,12 @@ GRAMMAR = {
     "rmdir": ["NAME"],
     "free": [""],
     "settime": ["NUM"],
+    "store": ["WORD WORD"],
+    "fetch": ["WORD"],
+    "block": ["SIZE"],
+    "unblock": ["WORD"],
+    "junta": ["LEVEL"],
+    "counterjunta": [""],
     "quit": [""],
 }
 
@@ -74,7 +82,21 @@ def read_file(text):
     return read_number(text[1:]) if text.startswith("#") else read_path(text)
 
 
-READERS = {"NAME": read_bare, "T": read_path, "F": read_file, "NUM": read_number, "HEX": read_hex}
+def read_within(first, last):
+    """A reader of the numbers from the first to the last."""
+
+    def read(text):
+        number = read_number(text)
+        return number if number is not None and first <= number <= last else None
+
+    return read
+
+
+# SIZE and LEVEL are the operands of `block` and `junta`
+READERS = {
+    **{"NAME": read_bare, "T": read_path, "F": read_file, "NUM": read_number, "HEX": read_hex},
+    **{"WORD": read_within(0, LAST_WORD), "SIZE": read_within(1, LAST_WORD), "LEVEL": read_within(1, LEVELS)},
+}
 
 
 def read_line(line):

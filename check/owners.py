@@ -19,7 +19,6 @@ STANDING_TYPES = {"Counts", "Entry", "Found", "Place", "Reading", "Row", "Runs",
 # modules whose names differ by an ending, by the shorter one
 STANDING_MODULES = {
     "label_sweep::sector", "directory::place", "scav_pages::directory", "scav_names::enter", "scav_names::widen", "scavenger::counts",
-    "exec_session::begin",
 }  # fmt: skip
 
 

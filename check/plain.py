@@ -1,7 +1,7 @@
-"""Run by other scripts: a plain program that answers typed lines by names and bytes alone.
+"""Run by other scripts: a plain program that answers typed lines by names, bytes and blocks alone.
 
-No sector, label, link, address or table stands in it. A pack is its files by their serials, each with its name, its dates and its bytes; a
-directory has slots in place of bytes. What a line is answered, and which operations it makes in which order, was written from
+No sector, label, link, address of a page or table stands in it. A pack is its files by their serials, each with its name, its dates and its
+bytes; a directory has slots in place of bytes. The memory of a session is the user's words and a list of blocks. What a line is answered, and which operations it makes in which order, was written from
 docs/commands.md, docs/formats.md and docs/model.md, and never from what the proved program answered. An operation is a call without
 arguments, so a line may be left in the middle.
 """
@@ -20,12 +20,25 @@ PAGE = 512
 LAST_VERSION, LAST_SERIAL = 65_534, 2**31 - 2
 # words: of the longest entry and the longest free slot, and those that making a directory and widening one give it
 LONGEST_ENTRY, LONGEST_SLOT, FIRST_SLOT, WIDER = 26, 1_023, 255, 256
+# how many words are the user's, and the word from which on each level of service stands
+USERS = 1_024
+BASES = {1: 64_512, 2: 63_488, 3: 61_440, 4: 57_344, 5: 53_248, 6: 49_152, 7: 45_056, 8: 40_960}
+ALL_LEVELS = grammar.LEVELS
+# the level that a line needs, where it isn't that of files
+FILES = 5
+NEEDED = {"mkdir": 7, "rmdir": 7, "free": 3, "block": 2, "unblock": 2}
+NEEDED.update(dict.fromkeys(["settime", "store", "fetch", "junta", "counterjunta", "quit"], 1))
+OBEYED_IN_NEED = ("counterjunta", "quit")
 # what an operand has to be
 ANY, ORDINARY, DIRECTORY, NEW = "any file", "an ordinary file", "a directory", "a new name"
 
 
 class Refused(Exception):
     """A line that is refused: its text."""
+
+
+class Misled(Refused):
+    """One that is answered by a hint that failed."""
 
 
 class Entry(typing.NamedTuple):
@@ -107,6 +120,91 @@ class Found(typing.NamedTuple):
     file: File | None
 
 
+class Block:
+    """A block of the zone: how many words it has, its tag among them, and the others if it is used, or None."""
+
+    def __init__(self, size, words=None):
+        self.size, self.words = size, words
+
+
+class Memory:
+    """The memory of a session: the user's words, and the blocks of the zone from the lowest on. At the start one free block is all of it."""
+
+    def __init__(self):
+        self.user, self.level = [0] * USERS, ALL_LEVELS
+        self.blocks = [Block(BASES[ALL_LEVELS] - USERS)]
+
+    def placed(self):
+        """Each block with the address of its tag."""
+        return list(zip(itertools.accumulate((it.size for it in self.blocks), initial=USERS), self.blocks))
+
+    def used(self):
+        return [(at, block) for at, block in self.placed() if block.words is not None]
+
+    def place(self, address):
+        """The words among which the one at this address may be stored to, and its place there; or a refusal."""
+        if address < USERS:
+            return self.user, address
+        for at, block in self.used():
+            if at < address < at + block.size:
+                return block.words, address - at - 1
+        raise Refused("not a block")
+
+    def join(self):
+        """Makes free blocks beside each other one."""
+        joined = []
+        for block in self.blocks:
+            if joined and joined[-1].words is None and block.words is None:
+                block = Block(joined.pop().size + block.size)
+            joined.append(block)
+        self.blocks = joined
+
+    def room_for(self, count):
+        """Which block is the lowest free one that has so many usable words, and the words of a block that has them."""
+        # with the tag, and one more where that is odd
+        size = count + 1 + (count + 1) % 2
+        free = [(number, it.size) for number, it in enumerate(self.blocks) if it.words is None]
+        for number, most in free:
+            if most >= size:
+                return number, size
+        raise Refused(f"no room: largest {max((most - 1 for _, most in free), default=0)}")
+
+    def take(self, number, size):
+        """Makes the first words of a free block a used one of zeros; the rest of it stays free."""
+        left = self.blocks[number].size - size
+        self.blocks[number : number + 1] = [Block(size, [0] * (size - 1)), *([Block(left)] if left else [])]
+
+    def block_at(self, address):
+        """The used block whose first usable word this is."""
+        for at, block in self.used():
+            if at + 1 == address:
+                return block
+        raise Refused("not a block")
+
+    def give_back(self, block):
+        block.words = None
+        self.join()
+
+    def lower(self, level):
+        """The words of the services above this level, which isn't a higher one, join the zone."""
+        if level < self.level:
+            self.blocks.append(Block(BASES[level] - BASES[self.level]))
+            self.level = level
+            self.join()
+
+    def may_restore(self):
+        """Refuses if a used block has a word where a service is to stand."""
+        for at, block in self.used():
+            if at + block.size > BASES[ALL_LEVELS]:
+                raise Refused(f"in use at {at + 1}")
+
+    def restore(self):
+        """All services come back: what the zone has from their base on, which is free, leaves it."""
+        base = BASES[ALL_LEVELS]
+        self.blocks = [Block(min(block.size, base - at), block.words) for at, block in self.placed() if at < base]
+        self.level = ALL_LEVELS
+
+
 class Plain:
     """A pack that was formatted at moment 0, with the last serial that was given out, and a session over it."""
 
@@ -119,8 +217,15 @@ class Plain:
         entries = [Entry(file.name, file) for file in self.system]
         self.root.slots = [*entries, FIRST_SLOT - sum(map(words_of, entries))]
         self.files = {file.serial: file for file in self.system}
+        # the entry in SysDir whose address was spoilt by hand, so that it says 0, or None
+        self.mislaid = None
+        self.begin()
 
     # a session
+
+    def begin(self):
+        """Begins a session: its memory is a new one, and no hint has failed."""
+        self.memory, self.in_need = Memory(), False
 
     def answer(self, line):
         """The reply to a line, and its operations, of which none is done yet."""
@@ -129,9 +234,15 @@ class Plain:
             if read is None:
                 raise Refused("bad line")
             verb, operands = read
+            if self.in_need and verb not in OBEYED_IN_NEED:
+                raise Refused("needs scavenging")
+            needed = NEEDED.get(verb, FILES)
+            if needed > self.memory.level:
+                raise Refused(f"needs level {needed}")
             text, operations = getattr(self, f"on_{verb}")(*operands)
         except Refused as refusal:
             text, operations = str(refusal), []
+            self.in_need = self.in_need or isinstance(refusal, Misled)
         return f"{text}\n".encode(), operations
 
     def obey(self, line):
@@ -166,6 +277,9 @@ class Plain:
                 raise Refused("is a directory")
         if any(it.file is self.descriptor for it, role in found if role != NEW):
             raise Refused("system file")
+        if any(it.entry is self.mislaid for it, _ in found if it.entry):
+            serial, word = self.mislaid.file.serial, self.address_word(self.mislaid)
+            raise Misled(f"hint failed: entry #{self.root.serial} word {word} at 0 wanted #{serial} v 1 page 0 found none")
         return [it for it, _ in found]
 
     def new_name(self, found):
@@ -176,6 +290,10 @@ class Plain:
         if version in versions or not grammar.is_stored(name) or bare and (bare.file.is_directory() or bare.file in self.system):
             raise Refused("name taken")
         return name
+
+    def address_word(self, entry):
+        """Which word of SysDir is the address in an entry there."""
+        return sum(map(words_of, self.root.slots[: self.root.slots.index(entry)])) + 5
 
     # free pages
 
@@ -319,6 +437,36 @@ class Plain:
     def on_settime(self, moment):
         """`settime`: the moment of later dates."""
         return "done", [partial(setattr, self, "moment", moment)]
+
+    def on_store(self, address, word):
+        """`store`: a word into the memory, the user's or a usable one of a used block."""
+        words, place = self.memory.place(address)
+        return "done", [partial(words.__setitem__, place, word)]
+
+    def on_fetch(self, address):
+        """`fetch`: the word there."""
+        words, place = self.memory.place(address)
+        return str(words[place]), []
+
+    def on_block(self, count):
+        """`block`: so many words of the zone, which begin as 0; its text tells the address of the first."""
+        number, size = self.memory.room_for(count)
+        at, _ = self.memory.placed()[number]
+        return f"at {at + 1}", [partial(self.memory.take, number, size)]
+
+    def on_unblock(self, address):
+        """`unblock`: the block whose first usable word this is goes back to the zone."""
+        return "done", [partial(self.memory.give_back, self.memory.block_at(address))]
+
+    def on_junta(self, level):
+        """`junta`: the services above this level go; none comes back."""
+        level = min(level, self.memory.level)
+        return f"level {level}", [partial(self.memory.lower, level)]
+
+    def on_counterjunta(self):
+        """`counterjunta`: all services come back."""
+        self.memory.may_restore()
+        return f"level {ALL_LEVELS}", [self.memory.restore]
 
     def on_quit(self):
         """`quit`: the session is over once this is answered."""

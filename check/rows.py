@@ -357,6 +357,241 @@ ROWS = [
             Show("SysDir>C. length 1|1 files"),
         ],
     ),
+    # the memory: blocks and levels
+    (
+        "blocks",
+        1,
+        2,
+        [
+            # 100 words and a tag are 102, of 39,936
+            Boot(
+                "block 100|block 40000|store 1025 7|fetch 1025|store 2000 7|unblock 1025|unblock 1025",
+                "at 1025|no room: largest 39833|done|7|not a block|done|not a block",
+                writes=False,
+            ),
+        ],
+    ),
+    (
+        "no line reaches the tag of a block",
+        1,
+        2,
+        [
+            Boot(
+                "block 1|block 1|store 1024 4|store 1026 5|fetch 1026|fetch 1024|store 1025 65535|fetch 1025|fetch 1027|unblock 1027|fetch 1025",
+                "at 1025|at 1027|not a block|not a block|not a block|not a block|done|65535|0|done|65535",
+                writes=False,
+            ),
+        ],
+    ),
+    (
+        "a level that goes and comes back",
+        1,
+        2,
+        [
+            Boot(
+                "junta 2|type A|block 60000|counterjunta|unblock 1025|counterjunta",
+                "level 2|needs level 5|at 1025|in use at 1025|done|level 8",
+                writes=False,
+            ),
+        ],
+    ),
+    (
+        "the words of the user, of the whole zone, and of the services",
+        1,
+        2,
+        [
+            Boot(
+                "block 65535|store 1023 5|fetch 0000001023|fetch 0|store 1024 5|fetch 1024|fetch 1025|fetch 40959|fetch 40960|fetch 65535|store 65535 0",
+                "no room: largest 39935|done|5|0" + "|not a block" * 7,
+                writes=False,
+            ),
+            # the next session has another memory
+            Boot(
+                "fetch 1023|block 39935|fetch 40959|store 40959 65535|fetch 40959|fetch 40960|block 1",
+                "0|at 1025|0|done|65535|not a block|no room: largest 0",
+                writes=False,
+            ),
+        ],
+    ),
+    (
+        "a block has an even number of words with its tag, and they begin as 0",
+        1,
+        2,
+        [
+            Boot(
+                "block 2|store 1027 9|fetch 1027|fetch 1028|block 1|fetch 1029|fetch 1030|unblock 1025|block 3|fetch 1027",
+                "at 1025|done|9|not a block|at 1029|0|not a block|done|at 1025|0",
+                writes=False,
+            ),
+        ],
+    ),
+    (
+        "a block that goes back joins free ones on both sides, and the lowest one with room is taken",
+        1,
+        2,
+        [
+            # three blocks of 12 words, from 1,024, 1,036 and 1,048 on; what is left begins at 1,060
+            Boot(
+                "block 10|block 10|block 10|unblock 1037|block 12|unblock 1061|block 11|unblock 1037"
+                "|unblock 1025|block 24|unblock 1061|block 23|unblock 1025|unblock 1049|block 39935|block 1|unblock 1025|block 1",
+                "at 1025|at 1037|at 1049|done|at 1061|done|at 1037|done"
+                "|done|at 1061|done|at 1025|done|done|at 1025|no room: largest 0|done|at 1025",
+                writes=False,
+            ),
+            # of two free blocks the lower one has 22 words, and the other one those that are wanted
+            Boot(
+                "block 20|block 1|block 10|block 1|unblock 1025|unblock 1049|block 10|block 10|block 10",
+                "at 1025|at 1047|at 1049|at 1061|done|done|at 1025|at 1049|at 1063",
+                writes=False,
+            ),
+            # the last of three first
+            Boot(
+                "block 10|block 10|block 10|unblock 1049|unblock 1025|block 65535|unblock 1037|block 39935",
+                "at 1025|at 1037|at 1049|done|done|no room: largest 39911|done|at 1025",
+                writes=False,
+            ),
+        ],
+    ),
+    (
+        "a block goes back by its first usable word alone",
+        1,
+        2,
+        [
+            Boot(
+                "block 3|unblock 0|unblock 1023|unblock 1024|unblock 1026|unblock 1028|unblock 1029|unblock 65535|unblock 1025",
+                "at 1025" + "|not a block" * 7 + "|done",
+                writes=False,
+            ),
+        ],
+    ),
+    (
+        "the largest block at each level",
+        1,
+        2,
+        [
+            Boot(
+                "block 65535|" + "|".join(f"junta {level}|block 65535" for level in range(7, 1, -1)),
+                "no room: largest 39935|level 7|no room: largest 44031|level 6|no room: largest 48127|level 5|no room: largest 52223"
+                "|level 4|no room: largest 56319|level 3|no room: largest 60415|level 2|no room: largest 62463",
+                writes=False,
+            ),
+        ],
+    ),
+    (
+        "a level that isn't lower",
+        1,
+        2,
+        [
+            Boot(
+                "junta 5|junta 7|junta 5|junta 08|junta 4|counterjunta|counterjunta|junta 8",
+                "level 5|level 5|level 5|level 5|level 4|level 8|level 8|level 8",
+                writes=False,
+            ),
+        ],
+    ),
+    (
+        "what each level obeys",
+        1,
+        2,
+        [
+            Boot(
+                "junta 7|mkdir D|rmdir D|junta 6|mkdir D|rmdir D|make A|list",
+                "level 7|made #3|done|level 6|needs level 7|needs level 7|made #4|A.|DiskDescriptor.|SysDir.|3 entries",
+            ),
+            Boot(
+                "junta 5|append A 41|patch A 0 42|type A|cut A 0|stat A|copy A B|rename B C|delete C|rmdir D|junta 4|list|type A|stat A|make B|append A 41"
+                "|patch A 0 41|cut A 0|copy A B|rename A B|delete A|free",
+                f"level 5|length 1|done|42|1 bytes|length 0|#4 length 0 pages 2 {DATES} name A.|made #5|done|done|needs level 7|level 4"
+                + "|needs level 5" * 10
+                + "|41 pages free",
+            ),
+            Boot(
+                "junta 3|free|junta 2|free|block 1|unblock 1025|junta 1|block 1|unblock 1025|store 0 7|fetch 0|settime 5|counterjunta|free|junta 1|quit|free",
+                "level 3|41 pages free|level 2|needs level 3|at 1025|done|level 1|needs level 2|needs level 2|done|7|done|level 8|41 pages free|level 1|done",
+                writes=False,
+            ),
+            Boot("junta 1|settime 5|free|quit", "level 1|done|needs level 3|done", writes=False),
+        ],
+    ),
+    (
+        "the words of a service are a block of their own after one that is used, and two services one",
+        1,
+        2,
+        [
+            # a used block may end where the services begin
+            Boot(
+                "block 39935|store 40959 9|junta 7|block 65535|counterjunta|junta 7|block 4095|junta 6|block 4095|counterjunta|unblock 45057|counterjunta"
+                "|unblock 40961|block 8191|unblock 40961|fetch 40959|counterjunta|block 1|fetch 40959",
+                "at 1025|done|level 7|no room: largest 4095|level 8|level 7|at 40961|level 6|at 45057|in use at 40961|done|in use at 40961"
+                "|done|at 40961|done|9|level 8|no room: largest 0|9",
+                writes=False,
+            ),
+            # the two words that are left before them, from 40,958 on, are all that stays of the free block
+            Boot(
+                "block 35843|block 4089|junta 7|counterjunta|block 1|block 1|unblock 36869|block 4091|junta 1|counterjunta|fetch 1025",
+                "at 1025|at 36869|level 7|level 8|at 40959|no room: largest 0|done|no room: largest 4089|level 1|level 8|0",
+                writes=False,
+            ),
+        ],
+    ),
+    (
+        "the lowest block in the way, and at level 1 none goes back",
+        1,
+        2,
+        [
+            Boot(
+                "junta 2|block 39937|block 10|counterjunta|unblock 1025|counterjunta|junta 1|unblock 40963|counterjunta|store 40963 3|fetch 40963|quit",
+                "level 2|at 1025|at 40963|in use at 1025|done|in use at 40963|level 1|needs level 2|in use at 40963|done|3|done",
+                writes=False,
+            ),
+        ],
+    ),
+    (
+        "the level is tested before room and blocks",
+        1,
+        2,
+        [
+            Boot(
+                "junta 1|block 65535|unblock 7|block 0|unblock 65536|fetch 5000",
+                "level 1|needs level 2|needs level 2|bad line|bad line|not a block",
+                writes=False,
+            ),
+        ],
+    ),
+    (
+        "numbers that don't fit",
+        1,
+        2,
+        [
+            Boot(
+                "block 0|block 65536|junta 0|junta 9|store 65536 0|store 0 65536|fetch 65536|unblock 65536|store 1|counterjunta 8|block|fetch -1|junta 00000000001",
+                "|".join(["bad line"] * 13),
+                writes=False,
+            ),
+        ],
+    ),
+    (
+        "levels come back in need of a scavenge, too",
+        1,
+        2,
+        [
+            Boot("make A", "made #3"),
+            Set(2, {29: 6}),
+            Boot(
+                "junta 5|type A|mkdir D|junta 9|counterjunta|fetch 0|store 0 1|block 1|unblock 1025|junta 5|counterjunta|quit",
+                f"level 5|{MISLED}|needs scavenging|bad line|level 8" + "|needs scavenging" * 5 + "|level 8|done",
+                2,
+                writes=False,
+            ),
+            # 50,000 words have room at level 5
+            Boot(
+                "junta 5|block 50000|type A|counterjunta|unblock 1025|counterjunta",
+                f"level 5|at 1025|{MISLED}|in use at 1025|needs scavenging|in use at 1025",
+                2,
+                writes=False,
+            ),
+        ],
+    ),
     # scavenges
     ("a formatted pack is as it should be", 1, 2, [Scavenge(report(2)), Boot("free", "43 pages free"), Show("0 files")]),
     ("and so on two drives", 2, 2, [Boot("make A", "made #3"), Scavenge(report(3)), Boot("free", "89 pages free")]),

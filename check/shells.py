@@ -219,6 +219,11 @@ def check_bad_lines(place):
         ("patch A x 00", "'x' isn't NUM, digits below 4294967296|it is typed: patch F NUM HEX"),
         ("patch A 0 0", "'0' isn't HEX, pairs of digits and a-f, at most 2000 bytes|it is typed: patch F NUM HEX"),
         ("cut A", "it is typed: cut F NUM"),
+        ("store 65536 0", "'65536' isn't WORD, digits below 65536|it is typed: store WORD WORD"),
+        ("fetch", "it is typed: fetch WORD"),
+        ("block 0", "'0' isn't NUM, a number from 1 to 65535|it is typed: block NUM"),
+        ("junta 9", "'9' isn't NUM, a number from 1 to 8|it is typed: junta NUM"),
+        ("counterjunta 8", "it is typed: counterjunta"),
         (f"make {'a' * 4_096}", "the line has 4101 bytes, and may have 4096"),
     ]
     for line, noted in rows:

@@ -11,16 +11,17 @@ import names
 
 TOP = names.TOP
 # words by hand that a document may have, and all of them together: those of tools.md for seven scripts, those of commands with
-# what to do after a text, those of formats, glossary, model and laws with the memory, and those of DECISIONS with all of these
+# what to do after a text and with six lines on the memory, those of working with streams and the memory, those of formats, glossary,
+# model and laws with the memory, and those of DECISIONS with all of these
 CAPS = {
     "README.md": 900,
     "CONTRIBUTING.md": 100,
-    "docs/commands.md": 4_410,
+    "docs/commands.md": 5_130,
     "docs/formats.md": 2_835,
     "docs/tools.md": 2_300,
     "docs/tour.md": 2_000,
     "docs/map.md": 1_600,
-    "docs/working.md": 3_000,
+    "docs/working.md": 3_050,
     "docs/glossary.md": 2_415,
     "docs/model.md": 6_615,
     "docs/laws.md": 3_675,
@@ -29,7 +30,7 @@ CAPS = {
     "docs/speed.md": 1_500,
     "docs/DECISIONS.md": 7_875,
 }
-ALL_WORDS = 45_000
+ALL_WORDS = 46_000
 MADE = ["docs/promises.md"]
 # words that a sentence may have, where it isn't as many as elsewhere; that a cell of a table may have; and a bullet
 SENTENCE = 50
@@ -41,7 +42,7 @@ UNWRITTEN = re.compile(r"\b(behind|for want of|want of memory|want(?:s|ed) (?:so
 WORDS_SECTION = re.compile(r"^## Words$.*?(?=^## )", re.M | re.S)
 # the crates whose comments are changed as they are proved for another reason: until then they are passed over
 WAITING = {
-    "alto_words", "directory", "disk_descriptor", "disk_image", "exec_session", "exec_writing", "laws_call", "laws_contents", "laws_hint",
+    "alto_words", "directory", "disk_descriptor", "disk_image", "exec_writing", "laws_call", "laws_contents", "laws_hint",
     "laws_met", "laws_operation", "pack_laws", "page_alloc", "scav_names", "scav_pages", "scavenger",
     "session_boot", "test_descriptor", "test_scavenge", "test_seeking",
 }  # fmt: skip

@@ -60,6 +60,7 @@ ROWS = [
         "a hint failed earlier in this session",
         "`quit`, then `alto PACK scavenge`; in `tools/altosh` the line `scavenge`",
     ),
+    Row("`needs level K`", "`junta` took the service of level K away", "`counterjunta` brings all back"),
     Row(
         "`bad line`",
         "not in the grammar: verbs are small, words are parted by one space, bytes are hexadecimal",
@@ -80,6 +81,13 @@ ROWS = [
     ),
     Row("`not empty`", "the directory has entries", "`list NAME`, then `delete` or `rename` each"),
     Row("`beyond length L`", "the file has L bytes, and the line goes past them", "`stat F` tells its length"),
+    Row("`no room: largest N`", "no free block has so many words; the largest one has N", "`unblock` a block, or `junta` for more words"),
+    Row(
+        "`not a block`",
+        "no used block has a word at this address; or, for `unblock`, none begins there",
+        "a used block begins where the reply to its `block` said",
+    ),
+    Row("`in use at A`", "a used block, that at A, has a word where a service is to stand", "`unblock A`; at level 1, where that isn't obeyed, a new session"),
     Row("`serials spent: last N`", "no serial is left for a new file", "a new pack, into which `tools/altocp` copies the files"),
     Row("`full: needed N free M`", "N pages of 512 bytes are needed, and M are free", "delete old versions, or give the pack a second drive"),
     Row(

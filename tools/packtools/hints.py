@@ -6,7 +6,7 @@ from packtools.survey import Survey
 
 PLACE = r"(?:root|entry #(\d+) word (\d+)|next of (\d+)|held (\d+))"
 FAILED = re.compile(rf"hint failed: {PLACE} at (\d+) wanted #(\d+) v \d+ page (\d+) found (.*)")
-CURE = "'scavenge' makes all hints true from what the labels say. Until then only quit is obeyed."
+CURE = "'scavenge' makes all hints true from what the labels say. Until then only quit and counterjunta are obeyed."
 
 
 def explained(reply, pack):

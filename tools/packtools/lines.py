@@ -29,9 +29,18 @@ VERBS = {
     "rmdir": Verb("NAME", "takes an empty directory away"),
     "free": Verb("", "counts the free pages"),
     "settime": Verb("NUM", "from now on dates are this moment, in seconds since the start of 1901"),
+    "store": Verb("WORD WORD", "puts a word into the memory, at this address"),
+    "fetch": Verb("WORD", "tells the word at this address of the memory"),
+    "block": Verb("NUM", "takes a block of so many words"),
+    "unblock": Verb("WORD", "gives the block at this address back"),
+    "junta": Verb("NUM", "takes the services above this level away; their words join the zone"),
+    "counterjunta": Verb("", "brings all services back"),
     "quit": Verb("", "ends the session"),
 }
 LONGEST = 4_096
+# the least and the greatest number that an operand of a kind may be, and that of a verb
+NUMBERS = {"NUM": (0, 2**32 - 1), "WORD": (0, 65_535)}
+OF_VERBS = {"block": (1, 65_535), "junta": (1, 8)}
 NUMBER, HEX = re.compile("[0-9]{1,10}"), re.compile("-|(?:[0-9A-Fa-f]{2}){1,2000}")
 
 
@@ -67,13 +76,15 @@ def operand_faults(verb, operands):
         text = " ".join(operands[1:])
         yield f"{text[:40]!r} isn't HEX, pairs of digits and a-f. As text: say {operands[0]} {text}"
     elif len(operands) == len(kinds):
-        yield from filter(None, map(operand_fault, kinds, operands))
+        yield from filter(None, (operand_fault(kind, text, OF_VERBS.get(verb)) for kind, text in zip(kinds, operands)))
 
 
-def operand_fault(kind, text):
-    """What is wrong with an operand, or None."""
-    if kind == "NUM":
-        return None if NUMBER.fullmatch(text) and int(text) < 2**32 else f"{text!r} isn't NUM, digits below 4294967296"
+def operand_fault(kind, text, bounds=None):
+    """What is wrong with an operand, or None. A number has the bounds of its kind, unless others are named."""
+    if kind in NUMBERS:
+        least, most = bounds or NUMBERS[kind]
+        told = f"a number from {least} to {most}" if bounds else f"digits below {most + 1}"
+        return None if NUMBER.fullmatch(text) and least <= int(text) <= most else f"{text!r} isn't {kind}, {told}"
     if kind == "HEX":
         return None if HEX.fullmatch(text) else f"{text[:40]!r} isn't HEX, pairs of digits and a-f, at most 2000 bytes"
     if text.startswith("#"):

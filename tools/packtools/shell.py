@@ -26,12 +26,12 @@ WORDS = {
     "import": ("import HOST .. [DIR>]", "copies host files into the pack, as altocp does"),
     "export": ("export NAME .. [FOLDER]", "copies files to the host"),
     "rm": ("rm NAME ..", "deletes the newest versions"),
-    "scavenge": ("scavenge", "mends the pack, and goes on"),
+    "scavenge": ("scavenge", "mends the pack, and goes on with a new memory"),
     "help": ("help [WORD]", "tells the words, or one"),
 }
 OPERANDS = (
     "T is a file by its name: NAME, DIR>NAME, or with !n its version n. F is T, or # and a serial. * ? [..] match newest names in the words",
-    "of the shell. HEX is pairs of hexadecimal digits, NUM a decimal number.",
+    "of the shell. HEX is pairs of hexadecimal digits, NUM a decimal number, WORD one of at most 65535.",
 )
 NOT_BUILT = "bad line"
 # characters of a line on a terminal, and bytes of one of `hex`
